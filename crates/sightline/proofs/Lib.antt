@@ -1,0 +1,6 @@
+pub mod Counting
+pub mod Widening
+pub mod Halves
+pub mod Rises
+mod Parts
+pub mod Padding

@@ -1,0 +1,5 @@
+pub mod Count
+pub mod Sight
+pub mod Lent
+pub mod Beyond
+pub mod Boxes
