@@ -1,0 +1,4 @@
+pub mod Wholes
+pub mod Theorem
+pub mod Cases
+mod Zeroed

@@ -1,0 +1,3 @@
+pub mod Build
+pub mod Cases
+pub mod Zeros

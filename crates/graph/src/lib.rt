@@ -1,0 +1,157 @@
+// The graph of a page: from its records to nodes and links.
+ghost use mathlib.Core.Path.{_≡_};
+ghost use Prim.Native.Nat.{_+_, _*_, _<_, _≤_};
+ghost use lib.ListN.{length};
+ghost use Rattle.nodes.specs.Graph.{NODES};
+ghost use Rattle.nodes.specs.Lent.{graph, Roomy, Built};
+ghost use Rattle.sightline.specs.Lent.{Held};
+ghost use Rattle.scan.specs.Lent.{anchors as anchors-of, Anchored};
+ghost use Rattle.fixed.specs.Up.{BIAS, ups};
+ghost use Rattle.graph.specs.Zeros.{closed};
+ghost use Rattle.graph.specs.Build.{boxes-of, whole, made, Made};
+
+// The graph of padded boxes and anchors, not pruned: how many nodes it has, or more than NODES where it would have more.
+fn whole(
+    bx: &[i32],
+    by: &[i32],
+    ex: &[i32],
+    ey: &[i32],
+    boxes: usize,
+    cx: &[i32],
+    cy: &[i32],
+    dirs: &[u32],
+    own: &[u32],
+    explicit: usize,
+    anchors: usize,
+    ax: &mut [i32],
+    ay: &mut [i32],
+    xs: &mut [i32],
+    ys: &mut [i32],
+    links: &mut [u32],
+    marks: &mut [u32],
+) -> usize
+    requires { ⌜ Held boxes (now bx) (now by) (now ex) (now ey) ⌝ }
+    requires { ⌜ Anchored (now cx) (now cy) (now dirs) (now own) anchors ⌝ }
+    requires { ⌜ Roomy (now xs) (now ys) (now links) (now marks) ⌝ }
+    requires { ⌜ (anchors ≤ length (now ax)) × (anchors ≤ length (now ay)) ⌝ }
+    ensures { λ r. ⌜ Built r (graph r (now (xs .exit)) (now (ys .exit)) (now (links .exit)) (now (marks .exit))) (whole (boxes-of (now (bx .entry)) (now (by .entry)) (now (ex .entry)) (now (ey .entry)) boxes) (anchors-of (now (cx .entry)) (now (cy .entry)) (now (dirs .entry)) (now (own .entry)) explicit anchors)) ⌝ }
+{
+    let nx = axis::axis_of(ax, 0, cx, anchors);
+    let ny = axis::axis_of(ay, 0, cy, anchors);
+    scan::build(
+        bx,
+        by,
+        ex,
+        ey,
+        boxes,
+        &ax[..nx],
+        &ay[..ny],
+        cx,
+        cy,
+        dirs,
+        own,
+        explicit,
+        anchors,
+        xs,
+        ys,
+        links,
+        marks,
+    )
+}
+
+// The graph of the boxes and anchors, pruned or not: how many nodes it has, or more than NODES where it would have more before pruning.
+pub fn make(
+    bx: &[i32],
+    by: &[i32],
+    ex: &[i32],
+    ey: &[i32],
+    boxes: usize,
+    cx: &[i32],
+    cy: &[i32],
+    dirs: &[u32],
+    own: &[u32],
+    explicit: usize,
+    anchors: usize,
+    ax: &mut [i32],
+    ay: &mut [i32],
+    xs: &mut [i32],
+    ys: &mut [i32],
+    links: &mut [u32],
+    marks: &mut [u32],
+    pruned: bool,
+) -> usize
+    requires { ⌜ Held boxes (now bx) (now by) (now ex) (now ey) ⌝ }
+    requires { ⌜ Anchored (now cx) (now cy) (now dirs) (now own) anchors ⌝ }
+    requires { ⌜ Roomy (now xs) (now ys) (now links) (now marks) ⌝ }
+    requires { ⌜ (anchors ≤ length (now ax)) × (anchors ≤ length (now ay)) ⌝ }
+    ensures { λ r. ⌜ Made r (graph r (now (xs .exit)) (now (ys .exit)) (now (links .exit)) (now (marks .exit))) (whole (boxes-of (now (bx .entry)) (now (by .entry)) (now (ex .entry)) (now (ey .entry)) boxes) (anchors-of (now (cx .entry)) (now (cy .entry)) (now (dirs .entry)) (now (own .entry)) explicit anchors)) (made (boxes-of (now (bx .entry)) (now (by .entry)) (now (ex .entry)) (now (ey .entry)) boxes) (anchors-of (now (cx .entry)) (now (cy .entry)) (now (dirs .entry)) (now (own .entry)) explicit anchors) pruned) ⌝ }
+{
+    let n = whole(
+        bx,
+        by,
+        ex,
+        ey,
+        boxes,
+        cx,
+        cy,
+        dirs,
+        own,
+        explicit,
+        anchors,
+        ax,
+        ay,
+        xs,
+        ys,
+        links,
+        marks,
+    );
+    if nodes::NODES < n {
+        return n;
+    }
+    if pruned {
+        return prune::remove_redundant_nodes(xs, ys, links, marks, n);
+    }
+    n
+}
+
+// Zero as a coordinate, counted from -2^31.
+const ZERO: u32 = 2147483648;
+
+// Zeros behind the first `from` coordinates.
+fn zero_steps(col: &mut [i32], from: usize)
+    requires { ⌜ from ≤ length (now col) ⌝ }
+    ensures { λ _. ⌜ ups (now (col .exit)) ≡ closed BIAS from (ups (now (col .entry))) ⌝ }
+{
+    let mut i = from;
+    while i < col.len() {
+        fixed::put(col, i, ZERO);
+        i += 1;
+    }
+}
+
+// Zeros behind the first `from` words.
+fn zero_words(col: &mut [u32], from: usize)
+    requires { ⌜ from ≤ length (now col) ⌝ }
+    ensures { λ _. ⌜ now (col .exit) ≡ closed 0 from (now (col .entry)) ⌝ }
+{
+    let mut i = from;
+    while i < col.len() {
+        col[i] = 0;
+        i += 1;
+    }
+}
+
+// Zeros behind the n nodes of a graph.
+pub fn close(xs: &mut [i32], ys: &mut [i32], links: &mut [u32], marks: &mut [u32], n: usize)
+    requires { ⌜ Roomy (now xs) (now ys) (now links) (now marks) ⌝ }
+    requires { ⌜ n ≤ NODES ⌝ }
+    ensures { λ _. ⌜ ups (now (xs .exit)) ≡ closed BIAS n (ups (now (xs .entry))) ⌝ }
+    ensures { λ _. ⌜ ups (now (ys .exit)) ≡ closed BIAS n (ups (now (ys .entry))) ⌝ }
+    ensures { λ _. ⌜ now (links .exit) ≡ closed 0 (n * 4) (now (links .entry)) ⌝ }
+    ensures { λ _. ⌜ now (marks .exit) ≡ closed 0 n (now (marks .entry)) ⌝ }
+{
+    zero_steps(xs, n);
+    zero_steps(ys, n);
+    zero_words(links, n * 4);
+    zero_words(marks, n);
+}

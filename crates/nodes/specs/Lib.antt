@@ -1,0 +1,4 @@
+pub mod Graph
+pub mod Lent
+pub mod Wf
+pub mod Chains
