@@ -1,0 +1,5 @@
+mod Low
+mod Bridge
+mod Between
+pub mod Theorem
+pub mod Cases

@@ -1,0 +1,87 @@
+-- The four answers of a search between places: s is the start's node, `es` the nodes of the k ends, ok whether all are known.
+use Prim.Native.Nat.{ℕ, zero, suc, _+_, _-_, _≤_, _<_}
+use mathlib.Core.Path.{_≡_, refl, sym, ap, _∙_, subst}
+use mathlib.Core.List.{List, [], _∷_, _++_}
+use mathlib.Core.Bool.{Bool, true, false, cond, _&&_}
+use native.Mathlib.Omega.{arith}
+use native.Mathlib.Nat.{not-suc-le-zero}
+use lib.ListN.{length, take, length-take, drop, drop-of-length-le, length-drop}
+use lib.Dec.{ltb, eqb}
+use borrow.Author.Tests.{lt-ltb, le-ltb, eq-eqb, ne-eqb, ltb-true}
+use Rattle.fixed.proofs.Bools.{and-left, and-right}
+use Rattle.nodes.specs.Graph.{Graph, seek}
+use Rattle.nodes.proofs.Nodes.{seek-take}
+use Rattle.astar.specs.Reached.{Below}
+use Rattle.path_finding.specs.Line.{line, table}
+use Rattle.path_finding.specs.Places.{node-at, known, start-of, ends-of, ends-known, line-between, number, Answered}
+use Rattle.path_finding.proofs.Lines.{below-more}
+
+pub start-is : (n : ℕ) (xs ys : List ℕ) (x y r : ℕ) → r ≡ seek xs ys n x y → r ≡ seek (take n xs) (take n ys) n x y
+start-is n xs ys x y r e = e ∙ sym (seek-take xs ys n x y)
+
+pub take-short : (k m : ℕ) (l : List ℕ) → k ≤ m → length (take k l) ≤ m
+take-short k m l h = omega (arith, length-take k l)
+
+-- ends that are known are nodes
+known-below : (xs ys : List ℕ) (n : ℕ) (exs eys : List ℕ) (k : ℕ) → known xs ys n exs eys k ≡ true → Below n (table (node-at xs ys n exs eys) k)
+unfolding known table
+known-below xs ys n exs eys zero h = λ i l. absurd (not-suc-le-zero l)
+known-below xs ys n exs eys (suc k) h =
+    below-more n (table (node-at xs ys n exs eys) k) (node-at xs ys n exs eys k) (known-below xs ys n exs eys k (and-left _ _ h)) (ltb-true _ _ (and-right (known xs ys n exs eys k) _ h))
+
+pub ends-below : (xs ys : List ℕ) (n : ℕ) (exs eys es : List ℕ) (k : ℕ) (ok : Bool) → ok ≡ known xs ys n exs eys k → ok ≡ true → es ≡ table (node-at xs ys n exs eys) k → Below n es
+ends-below xs ys n exs eys es k ok e f g = subst (λ (l : List ℕ). Below n l) (sym g) (known-below xs ys n exs eys k (sym e ∙ f))
+
+module _ (G : Graph) (x y : ℕ) (exs eys path : List ℕ) (s k : ℕ) (long : length path ≡ G .count) (at-start : s ≡ start-of G x y) (many : k ≡ length exs) where
+  behind : drop (G .count - 0) path ≡ []
+  behind = drop-of-length-le path {i = G .count - 0} (omega arith)
+
+  pub no-start : G .count ≤ s → Answered G x y exs eys 9 0 path
+  unfolding number line-between
+  no-start l =
+      let h : G .count ≤ start-of G x y = rw (← at-start) l in
+      record { number-is = rw (le-ltb _ _ h); nodes-is = rw (le-ltb _ _ h); line-is = rw (le-ltb _ _ h) behind }
+
+  module _ (l : s < G .count) (ok : Bool) (is-known : ok ≡ known (G .xs) (G .ys) (G .count) exs eys k) where
+    h : start-of G x y < G .count
+    h = rw (← at-start) l
+
+    pub no-end : ok ≡ false → Answered G x y exs eys 10 0 path
+    unfolding number line-between
+    no-end f =
+        let e : ends-known G exs eys ≡ false = rw (← many) (sym is-known ∙ f) in
+        record { number-is = rw (lt-ltb _ _ h, e); nodes-is = rw (lt-ltb _ _ h, e); line-is = rw (lt-ltb _ _ h, e) behind }
+
+    module _ (f : ok ≡ true) (es : List ℕ) (nodes : es ≡ table (node-at (G .xs) (G .ys) (G .count) exs eys) k) where
+      e : ends-known G exs eys ≡ true
+      e = rw (← many) (sym is-known ∙ f)
+
+      same-line : line G es s ≡ line G (ends-of G exs eys) (start-of G x y)
+      same-line = rw (nodes, at-start, many)
+
+      between-is : line-between G x y exs eys ≡ line G es s
+      unfolding line-between
+      between-is = rw (lt-ltb _ _ h, e) (sym same-line)
+
+      number-some : 0 < length (line-between G x y exs eys) → 0 ≡ number G x y exs eys
+      unfolding number
+      number-some p = rw (lt-ltb _ _ h, e, ne-eqb (length (line-between G x y exs eys)) 0 (λ z. omega arith))
+
+      number-none : length (line-between G x y exs eys) ≡ 0 → 11 ≡ number G x y exs eys
+      unfolding number
+      number-none p = rw (lt-ltb _ _ h, e, eq-eqb (length (line-between G x y exs eys)) 0 p)
+
+      module _ (at : ℕ) (z : drop at path ≡ line G es s) (within : at ≤ G .count) where
+        length-is : length (line-between G x y exs eys) ≡ G .count - at
+        length-is = ap length (between-is ∙ sym z) ∙ length-drop at path ∙ ap (λ (j : ℕ). j - at) long
+
+        pub no-line-between : at ≡ G .count → Answered G x y exs eys 11 0 path
+        no-line-between q =
+            let m : length (line-between G x y exs eys) ≡ 0 = omega (arith, length-is) in
+            let b : G .count - 0 ≡ at = omega arith in
+            record { number-is = number-none m; nodes-is = sym m; line-is = rw (b, between-is) z }
+
+        pub line-found : (at ≡ G .count → ⊥) → Answered G x y exs eys 0 (G .count - at) path
+        line-found q =
+            let b : G .count - (G .count - at) ≡ at = omega arith in
+            record { number-is = number-some (omega (arith, length-is)); nodes-is = sym length-is; line-is = rw (b, between-is) z }
