@@ -1,0 +1,5 @@
+mod Moves
+mod Axis
+mod Closed
+pub mod Promises
+pub mod Cases

@@ -1,0 +1,4 @@
+pub mod Moves
+pub mod Separation
+pub mod Promises
+pub mod Cases
