@@ -1,0 +1,4 @@
+pub mod Seeking
+pub mod Counts
+pub mod Pushes
+pub mod Offers
