@@ -1,0 +1,6 @@
+pub mod Blocks
+pub mod Decode
+pub mod Valid
+pub mod Whole
+pub mod Keeps
+pub mod Demand

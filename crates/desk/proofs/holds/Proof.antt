@@ -1,0 +1,56 @@
+-- `desk::holds` meets its contract. The search over the kind's area.
+use mathlib.Core.Path.{refl}
+use Prim.Native.Nat.{_-_, _+_}
+use native.Mathlib.Omega.{arith}
+use borrow.Author.Needs.{needs}
+use Rattle.desk.specs.Book.{width}
+use Rattle.desk.specs.Desk.{size}
+use Rattle.desk.proofs.Blocks
+use Rattle.desk.proofs.holds.Statement.{statement}
+use Rattle.desk.proofs.holds.Tie as tie
+
+area-at-requires : tie.Need-area-at-requires
+area-at-requires c κs = search needs
+
+size-requires : tie.Need-size-requires
+size-requires c κs = search needs
+
+add-holds : tie.Need-add-holds
+add-holds c = omega (arith, Blocks.within (c .before .before .before .args .kind))
+
+mul-holds : tie.Need-mul-holds
+mul-holds c = omega (arith, Blocks.within (c .before .before .before .args .kind))
+
+sub-holds : tie.Need-sub-holds
+sub-holds c = search needs
+
+part-holds-start : tie.Need-part-holds-start
+part-holds-start c = search needs
+
+part-holds-end : tie.Need-part-holds-end
+part-holds-end c = omega (arith, Blocks.within (c .before .before .before .args .kind), c .before .before .before .pre .long)
+
+width-requires : tie.Need-width-requires
+width-requires c κs = search needs
+
+holds-requires : tie.Need-holds-requires
+holds-requires c κs =
+    Blocks.can-hold (c .before .before .before .before .before .args .kind) (c .before .before .before .before .before .args .blk .now) (c .before .before .before .before .before .pre) (c .before .before .before .area-at .result) (c .before .before .size .result) (c .width .result) (c .before .before .before .area-at .result + c .before .before .size .result - c .before .before .before .area-at .result) (c .before .before .before .area-at .ensures) (c .before .before .size .ensures) (c .width .ensures) refl
+
+returns : tie.Need-returns
+returns c = Blocks.held _ _ (c .before .before .before .before .before .before .pre) _ _ _ _ (c .before .before .before .before .area-at .ensures) (c .before .before .before .size .ensures) (c .before .width .ensures) refl _ _ (c .holds .ensures)
+
+pub holds-spec : {M : Type 1} → statement M
+holds-spec =
+    tie.close
+    (tie.spec
+    area-at-requires
+    size-requires
+    add-holds
+    mul-holds
+    sub-holds
+    part-holds-start
+    part-holds-end
+    width-requires
+    holds-requires
+    returns)

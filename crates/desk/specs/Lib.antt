@@ -1,0 +1,4 @@
+pub mod Sizes
+pub mod Book
+pub mod Desk
+pub mod Calls
