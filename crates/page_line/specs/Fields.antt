@@ -1,0 +1,62 @@
+-- 01, 'Desk and page text': the fields of a line, plain decimals, and the words of the desk that they become.
+use Prim.Native.Nat.{ℕ, zero, suc, _+_, _-_}
+use mathlib.Core.List.{List, [], _∷_}
+use mathlib.Core.Bool.{Bool, true, cond, _&&_}
+use lib.ListN.{length}
+use lib.Dec.{leb, ltb}
+use Rattle.fixed.specs.Up.{BIAS}
+use Rattle.decimals.specs.Decimal.{BASE, plain, value}
+
+unfoldable pub allPlain : List (List ℕ) → Bool
+allPlain [] = true
+allPlain (f ∷ fs) = plain f && allPlain fs
+
+unfoldable pub values : List (List ℕ) → List ℕ
+values [] = []
+values (f ∷ fs) = value f ∷ values fs
+
+-- the most fields that a line is read for: no kind has more
+abbrev pub MOST : ℕ
+MOST = 12
+
+-- how many fields stand behind n others, all plain and at most MOST; MOST + 1 if they are not
+unfoldable pub countFrom : ℕ → List (List ℕ) → ℕ
+countFrom n fs = cond (allPlain fs && leb (n + length fs) MOST) (n + length fs) (MOST + 1)
+
+-- a field is an id, a coordinate in steps, or a small number (directions, a mark)
+pub data Sort : Type 0 where
+  ident : Sort
+  step : Sort
+  small : Sort
+
+-- a word that is out of range for a coordinate, directions and a mark; an id is out of range at 0
+abbrev pub OUT : ℕ
+OUT = 4294967295
+
+-- a value, which is kept BASE above what the field writes, as the word of its sort; a coordinate is counted from −2^31.
+-- What a word cannot hold becomes a word that is out of the field's range too.
+unfoldable pub idWord : ℕ → ℕ
+idWord v = cond (leb v BASE) 0 (cond (leb (BASE + BASE) v) 0 (v - BASE))
+
+unfoldable pub stepWord : ℕ → ℕ
+stepWord v = cond (ltb v BIAS) 0 (cond (ltb v (BASE + BIAS)) (v - BIAS) OUT)
+
+unfoldable pub smallWord : ℕ → ℕ
+smallWord v = cond (ltb v BASE) OUT (cond (ltb v (BASE + BASE)) (v - BASE) OUT)
+
+unfoldable pub word : Sort → ℕ → ℕ
+word ident v = idWord v
+word step v = stepWord v
+word small v = smallWord v
+
+-- values as a row of words
+unfoldable pub rowOf : List Sort → List ℕ → List ℕ
+rowOf [] vs = []
+rowOf (s ∷ ss) [] = []
+rowOf (s ∷ ss) (v ∷ vs) = word s v ∷ rowOf ss vs
+
+-- a value as the word of the i-th field
+unfoldable pub wordAt : List Sort → ℕ → ℕ → ℕ
+wordAt [] i v = 0
+wordAt (s ∷ ss) zero v = word s v
+wordAt (s ∷ ss) (suc i) v = wordAt ss i v

@@ -1,0 +1,59 @@
+-- 01, 'Desk and page text': reading a page text first empties the lists, then adds its lines without copies; the first line that is malformed
+-- or refused stops it with 16, its 1-based line and the inner number, and empties the lists again.
+use Prim.Native.Nat.{ℕ, _+_}
+use mathlib.Core.List.{List, [], _∷_, _++_}
+use mathlib.Core.Bool.{cond}
+use lib.Dec.{eqb}
+use Rattle.desk.specs.declared.Kind.{Kind}
+use Rattle.desk.specs.Book.{Record, Lists, noLists, takeNumber, withRecord}
+use Rattle.page_line.specs.Records.{Line, entry, malformed}
+use Rattle.page_line.specs.Lines.{textLines}
+use Rattle.page_line.specs.Write.{lineText}
+use Rattle.page_text.specs.declared.Step.{Step}
+use Rattle.page_text.specs.declared.Step.the-variants.{Went, Bad}
+
+-- what a line gets on the lists: its record's number, or 0 if it is malformed, which is tested no further
+unfoldable pub stepOf : ℕ → Step
+stepOf n = cond (eqb n 0) Went (Bad n)
+
+unfoldable pub takes : Line → Lists → Step
+takes (entry k r) l = stepOf (takeNumber k r l)
+takes malformed l = Bad 0
+
+-- the lists with a line's record put last
+unfoldable pub adds : Line → Lists → Lists
+adds (entry k r) l = withRecord k r l
+adds malformed l = l
+
+-- the number, the line, the inner number, and the lists
+pub record Reading : Type 0 where
+  pub number : ℕ
+  pub line : ℕ
+  pub inner : ℕ
+  pub lists : Lists
+
+abbrev pub accepted : Lists → Reading
+accepted l = record { number = 0; line = 0; inner = 0; lists = l }
+
+abbrev pub refused : ℕ → ℕ → Reading
+refused line inner = record { number = 16; line = line; inner = inner; lists = noLists }
+
+unfoldable pub onward : Step → ℕ → Reading → Reading
+onward Went line rest = rest
+onward (Bad inner) line rest = refused line inner
+
+-- the lines behind the first n
+unfoldable pub feed : ℕ → Lists → List Line → Reading
+feed n l [] = accepted l
+feed n l (x ∷ xs) = onward (takes x l) (n + 1) (feed (n + 1) (adds x l) xs)
+
+unfoldable pub readText : List ℕ → Reading
+readText text = feed 0 noLists (textLines text)
+
+-- lists as a page text, in kept order: boxes, ports, nets, ends
+unfoldable pub linesText : Kind → List Record → List ℕ
+linesText k [] = []
+linesText k (r ∷ rs) = lineText k r ++ linesText k rs
+
+unfoldable pub pageText : Lists → List ℕ
+pageText l = linesText Kind.Box (l .boxes) ++ (linesText Kind.Port (l .ports) ++ (linesText Kind.Net (l .nets) ++ linesText Kind.End (l .ends)))
