@@ -1,0 +1,14 @@
+-- The calls of equal coordinates are equal.
+use mathlib.Core.Path.{_≡_}
+use Prim.Native.Nat.{ℕ}
+use lib.IntN.{ℤ}
+use Rattle.desk.specs.declared.Kind.{Kind}
+use Rattle.desk.specs.Calls.{boxRecord, pointRecord}
+use Rattle.desk.specs.Calls.Call.{add}
+
+pub box-call : (id : ℕ) (x₀ y₀ x₁ y₁ a₀ b₀ a₁ b₁ : ℤ) → x₀ ≡ a₀ → y₀ ≡ b₀ → x₁ ≡ a₁ → y₁ ≡ b₁
+    → add Kind.Box (boxRecord id x₀ y₀ x₁ y₁) ≡ add Kind.Box (boxRecord id a₀ b₀ a₁ b₁)
+box-call id x₀ y₀ x₁ y₁ a₀ b₀ a₁ b₁ e f g h = rw (e, f, g, h)
+
+pub point-call : (k : Kind) (id last : ℕ) (x y a b : ℤ) → x ≡ a → y ≡ b → add k (pointRecord id x y last) ≡ add k (pointRecord id a b last)
+point-call k id last x y a b e f = rw (e, f)

@@ -1,0 +1,4 @@
+pub mod Read
+pub mod Rest
+pub mod Demand
+mod Called

@@ -1,0 +1,95 @@
+-- Reading on a desk that is lent whole: it keeps the desk's length, and the lists that it leaves keep their limits.
+use mathlib.Core.Path.{_≡_, refl, sym, ap, _∙_}
+use mathlib.Core.List.{List, [], _∷_}
+use mathlib.Core.Bool.{Bool, true, false, cond}
+use Prim.Native.Nat.{ℕ, _+_, _≤_}
+use native.Mathlib.Omega.{arith}
+use lib.ListN.{length}
+use lib.Dec.{eqb}
+use borrow.Author.Tests.{eqb-true}
+use Rattle.rows.specs.Rows.{key, scan}
+use Rattle.desk.specs.Sizes.{DESK}
+use Rattle.desk.specs.Book.{Lists, noLists, okRecord, okLists, okOwners, okMembers, okCopy, valid, answer, addNumber, takeNumber}
+use Rattle.desk.specs.Desk.{Ready, block, listsOf, emptied, taken, at0}
+use Rattle.desk.proofs.Decode.{length-emptied, ready-emptied}
+use Rattle.desk.proofs.Keeps
+use Rattle.page_line.specs.Records.{Line, entry, malformed}
+use Rattle.page_line.specs.Lines.{textLines}
+use Rattle.page_line.proofs.Wide.{AllWide, wide-lines}
+use Rattle.page_text.specs.Reading.{stepOf, takes, adds, onward, feed, readText}
+use Rattle.page_text.specs.Words.{leaves, onwardWords, feedWords, textWords}
+use Rattle.page_text.specs.declared.Step.{Step}
+use Rattle.page_text.specs.declared.Step.the-variants.{Went, Bad}
+use Rattle.page_text.proofs.Turns.{After, after}
+
+-- ---- the length
+pub no-went : {A : Type 0} (n : ℕ) → Bad n ≡ Went → A
+no-went n e = let z : _≡_ {A = ℕ} 0 1 = cc in absurd (omega arith)
+
+-- a line that stops the reading leaves the words as they were
+pub left-bad : (x : Line) (ws : List ℕ) (n : ℕ) → takes x (listsOf (block ws)) ≡ Bad n → leaves x ws ≡ ws
+unfolding takes leaves stepOf at0
+left-bad (entry k r) ws n e = go (eqb (takeNumber k r (listsOf (block ws))) 0) e
+  where
+    go : (b : Bool) → cond b Went (Bad (takeNumber k r (listsOf (block ws)))) ≡ Bad n → cond b (taken k r ws) ws ≡ ws
+    go true e = no-went n (sym e)
+    go false e = refl
+left-bad malformed ws n e = refl
+
+length-feed : (ws : List ℕ) (xs : List Line) → Ready ws → AllWide xs → length (feedWords ws xs) ≡ length ws
+unfolding feedWords onwardWords
+length-feed ws [] ready w = refl
+length-feed ws (x ∷ xs) ready w = go (takes x (listsOf (block ws))) refl (λ a. length-feed (leaves x ws) xs (a .ready) (w .1))
+  where
+    go : (s : Step) → takes x (listsOf (block ws)) ≡ s → (After x ws (leaves x ws) → length (feedWords (leaves x ws) xs) ≡ length (leaves x ws))
+        → length (onwardWords s (leaves x ws) (feedWords (leaves x ws) xs)) ≡ length ws
+    go Went t ih = let a = after x ws ready (w .0) t in ih a ∙ a .long
+    go (Bad k) t ih = length-emptied (leaves x ws) ∙ ap length (left-bad x ws k t)
+
+pub length-text : (text ws : List ℕ) → DESK ≤ length ws → length (textWords text ws) ≡ length ws
+unfolding textWords
+length-text text ws h = length-feed (emptied ws) (textLines text) (ready-emptied ws h) (wide-lines text) ∙ length-emptied ws
+
+-- ---- the limits
+pub step-0 : (n : ℕ) → stepOf n ≡ Went → n ≡ 0
+unfolding stepOf
+step-0 n e = go (eqb n 0) refl e
+  where
+    go : (b : Bool) → eqb n 0 ≡ b → cond b Went (Bad n) ≡ Went → n ≡ 0
+    go true q e = eqb-true n 0 q
+    go false q e = no-went n e
+
+pub answer-0 : (f : Bool) (n : ℕ) → answer true f n ≡ 0 → (f ≡ true) × (n ≡ 0)
+unfolding answer
+answer-0 true n e = (refl, e)
+answer-0 false n e = absurd (omega arith)
+
+ok-adds : (x : Line) (l : Lists) → okLists l ≡ true → takes x l ≡ Went → okLists (adds x l) ≡ true
+unfolding takes adds takeNumber
+ok-adds (entry k r) l ok e =
+    let p = answer-0 (okRecord k r) (addNumber k l (key r)) (step-0 (takeNumber k r l) e) in
+    Keeps.ok-with l ok k r (p .0) (p .1)
+ok-adds malformed l ok e = no-went 0 e
+
+pub none-ok : okLists noLists ≡ true
+unfolding scan okLists okOwners okMembers
+none-ok = refl
+
+ok-feed : (n : ℕ) (l : Lists) (xs : List Line) → okLists l ≡ true → okLists (feed n l xs .lists) ≡ true
+unfolding feed onward
+ok-feed n l [] ok = ok
+ok-feed n l (x ∷ xs) ok = go (takes x l) refl (ok-feed (n + 1) (adds x l) xs)
+  where
+    go : (s : Step) → takes x l ≡ s → (okLists (adds x l) ≡ true → okLists (feed (n + 1) (adds x l) xs .lists) ≡ true)
+        → okLists (onward s (n + 1) (feed (n + 1) (adds x l) xs) .lists) ≡ true
+    go Went t ih = ih (ok-adds x l ok t)
+    go (Bad k) t ih = none-ok
+
+pub ok-text : (text : List ℕ) → okLists (readText text .lists) ≡ true
+unfolding readText
+ok-text text = ok-feed 0 noLists (textLines text) none-ok
+
+-- lists that keep their limits are a valid book, without a pile
+pub valid-lists : (l : Lists) → okLists l ≡ true → valid (record { lists = l; pile = [] }) ≡ true
+unfolding valid scan okCopy
+valid-lists l ok = rw ok

@@ -1,0 +1,90 @@
+// The public calls on a desk. The claims about lists of calls stand in specs/Calls.antt.
+ghost use mathlib.Core.Path.{_≡_};
+ghost use Rattle.desk.specs.declared.Kind.{Kind};
+ghost use Rattle.desk.specs.Calls.{boxRecord, pointRecord, netRecord};
+ghost use Rattle.desk.specs.Calls.Call.{add, retire, undo as undo-call};
+ghost use Rattle.clue_desk.specs.Calls.{number, words, refusal as refusal-of};
+ghost use Rattle.clue_desk.specs.Calls.Call.{edit, read};
+
+// Reads a page text: 0, or 16 with the 1-based line and the inner number, or 1 if the desk or the refusal's words are lent too small.
+#[no_mangle]
+pub extern "C" fn read_text(desk: &mut [u32], text: &[u8], refusal: &mut [u32]) -> u32
+    ensures { λ r. ⌜ r ≡ number (read (now (text .entry)) (now (refusal .entry))) (now (desk .entry)) ⌝ }
+    ensures { λ _. ⌜ now (desk .exit) ≡ words (read (now (text .entry)) (now (refusal .entry))) (now (desk .entry)) ⌝ }
+    ensures { λ _. ⌜ now (refusal .exit) ≡ refusal-of (read (now (text .entry)) (now (refusal .entry))) (now (desk .entry)) ⌝ }
+{
+    page_text::read_text(desk, text, refusal)
+}
+
+#[no_mangle]
+pub extern "C" fn add_box(desk: &mut [u32], id: u32, x0: i32, y0: i32, x1: i32, y1: i32) -> u32
+    ensures { λ r. ⌜ r ≡ number (edit (add Kind.Box (boxRecord id x0 y0 x1 y1))) (now (desk .entry)) ⌝ }
+    ensures { λ _. ⌜ now (desk .exit) ≡ words (edit (add Kind.Box (boxRecord id x0 y0 x1 y1))) (now (desk .entry)) ⌝ }
+{
+    desk::add_box(desk, id, x0, y0, x1, y1)
+}
+
+#[no_mangle]
+pub extern "C" fn add_port(desk: &mut [u32], id: u32, x: i32, y: i32, directions: u32) -> u32
+    ensures { λ r. ⌜ r ≡ number (edit (add Kind.Port (pointRecord id x y directions))) (now (desk .entry)) ⌝ }
+    ensures { λ _. ⌜ now (desk .exit) ≡ words (edit (add Kind.Port (pointRecord id x y directions))) (now (desk .entry)) ⌝ }
+{
+    desk::add_port(desk, id, x, y, directions)
+}
+
+#[no_mangle]
+pub extern "C" fn add_net(desk: &mut [u32], id: u32) -> u32
+    ensures { λ r. ⌜ r ≡ number (edit (add Kind.Net (netRecord id))) (now (desk .entry)) ⌝ }
+    ensures { λ _. ⌜ now (desk .exit) ≡ words (edit (add Kind.Net (netRecord id))) (now (desk .entry)) ⌝ }
+{
+    desk::add_net(desk, id)
+}
+
+#[no_mangle]
+pub extern "C" fn add_end(desk: &mut [u32], net: u32, x: i32, y: i32, mark: u32) -> u32
+    ensures { λ r. ⌜ r ≡ number (edit (add Kind.End (pointRecord net x y mark))) (now (desk .entry)) ⌝ }
+    ensures { λ _. ⌜ now (desk .exit) ≡ words (edit (add Kind.End (pointRecord net x y mark))) (now (desk .entry)) ⌝ }
+{
+    desk::add_end(desk, net, x, y, mark)
+}
+
+#[no_mangle]
+pub extern "C" fn retire_box(desk: &mut [u32], id: u32) -> u32
+    ensures { λ r. ⌜ r ≡ number (edit (retire Kind.Box id)) (now (desk .entry)) ⌝ }
+    ensures { λ _. ⌜ now (desk .exit) ≡ words (edit (retire Kind.Box id)) (now (desk .entry)) ⌝ }
+{
+    desk::retire_box(desk, id)
+}
+
+#[no_mangle]
+pub extern "C" fn retire_port(desk: &mut [u32], at: u32) -> u32
+    ensures { λ r. ⌜ r ≡ number (edit (retire Kind.Port at)) (now (desk .entry)) ⌝ }
+    ensures { λ _. ⌜ now (desk .exit) ≡ words (edit (retire Kind.Port at)) (now (desk .entry)) ⌝ }
+{
+    desk::retire_port(desk, at)
+}
+
+#[no_mangle]
+pub extern "C" fn retire_net(desk: &mut [u32], id: u32) -> u32
+    ensures { λ r. ⌜ r ≡ number (edit (retire Kind.Net id)) (now (desk .entry)) ⌝ }
+    ensures { λ _. ⌜ now (desk .exit) ≡ words (edit (retire Kind.Net id)) (now (desk .entry)) ⌝ }
+{
+    desk::retire_net(desk, id)
+}
+
+#[no_mangle]
+pub extern "C" fn retire_end(desk: &mut [u32], at: u32) -> u32
+    ensures { λ r. ⌜ r ≡ number (edit (retire Kind.End at)) (now (desk .entry)) ⌝ }
+    ensures { λ _. ⌜ now (desk .exit) ≡ words (edit (retire Kind.End at)) (now (desk .entry)) ⌝ }
+{
+    desk::retire_end(desk, at)
+}
+
+// Puts the top copy back and takes it off.
+#[no_mangle]
+pub extern "C" fn undo(desk: &mut [u32]) -> u32
+    ensures { λ r. ⌜ r ≡ number (edit undo-call) (now (desk .entry)) ⌝ }
+    ensures { λ _. ⌜ now (desk .exit) ≡ words (edit undo-call) (now (desk .entry)) ⌝ }
+{
+    desk::undo(desk)
+}
