@@ -1,0 +1,2 @@
+mod Pieces
+pub mod Writing
