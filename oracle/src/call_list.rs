@@ -117,6 +117,9 @@ pub fn fixed_list() -> Vec<u8> {
     for seed in 0..120 {
         random_sequence(&mut recorder, &mut Random::new(seed));
     }
+    for seed in 0..300 {
+        text_sequence(&mut recorder, &mut Random::new(seed));
+    }
     recorder.list
 }
 
@@ -407,6 +410,25 @@ fn random_sequence(recorder: &mut Recorder, random: &mut Random) {
         };
         for _ in 0..times {
             recorder.call(call.clone());
+        }
+    }
+    recorder.lists();
+}
+
+/// Some eight short texts, most of them followed by an undo, with a few calls between them and the
+/// lists written down now and then.
+fn text_sequence(recorder: &mut Recorder, random: &mut Random) {
+    recorder.new_desk();
+    for _ in 0..random.between(4, 12) {
+        recorder.call(Call::Text(pages::short(random)));
+        if random.percent(25) {
+            recorder.lists();
+        }
+        if random.percent(70) {
+            recorder.call(Call::Undo);
+        }
+        for _ in 0..random.pick(&[0, 1, 3, 6]) {
+            recorder.call(random_call(random));
         }
     }
     recorder.lists();

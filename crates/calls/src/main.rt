@@ -7,9 +7,6 @@ ghost use Rattle.desk.specs.Sizes.{DESK};
 // No number: the line says another call.
 const NONE: u32 = 99;
 
-// The list's size at most.
-const LIST: usize = 262144;
-
 // The numbers of a line behind its word, as words, and the place behind the first of them that was read.
 struct Words {
     words: [u64; 6],
@@ -308,7 +305,7 @@ fn replay(desk: &mut [u32], other: &mut [u32], refusal: &mut [u32], list: &[u8])
 }
 
 fn main() {
-    let mut list = [0u8; LIST];
+    let mut list = vector_list::room();
     let n = io::read_full(0, &mut list);
     let mut desk = [0u32; desk::DESK];
     let mut other = [0u32; desk::DESK];

@@ -5,10 +5,12 @@ mod dense;
 mod limits;
 mod realistic;
 mod samples;
+mod short;
 
 pub use damaged::malformations;
 pub use limits::limits;
 pub use samples::samples;
+pub use short::short;
 
 use crate::desk::{Lists, Place};
 use crate::page_text;
