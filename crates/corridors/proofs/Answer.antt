@@ -56,7 +56,7 @@ cleared-end z l₀ l from i n e₀ e h r c =
 
 -- ---- directions
 
-length-directions : (level n : ℕ) → length (directions level n) ≡ n
+pub length-directions : (level n : ℕ) → length (directions level n) ≡ n
 unfolding directions
 length-directions level zero = refl
 length-directions level (suc n) =

@@ -4,7 +4,7 @@ mod Taking
 mod Filling
 mod Folds
 mod Laying
-mod Answer
+pub mod Answer
 pub mod Crossing
 pub mod Index
 pub mod Runs

@@ -1,4 +1,5 @@
 pub mod Wholes
 pub mod Theorem
+pub mod Coordinates
 pub mod Cases
-mod Zeroed
+pub mod Zeroed

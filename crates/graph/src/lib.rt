@@ -118,7 +118,7 @@ pub fn make(
 const ZERO: u32 = 2147483648;
 
 // Zeros behind the first `from` coordinates.
-fn zero_steps(col: &mut [i32], from: usize)
+pub fn zero_steps(col: &mut [i32], from: usize)
     requires { ⌜ from ≤ length (now col) ⌝ }
     ensures { λ _. ⌜ ups (now (col .exit)) ≡ closed BIAS from (ups (now (col .entry))) ⌝ }
 {
@@ -130,7 +130,7 @@ fn zero_steps(col: &mut [i32], from: usize)
 }
 
 // Zeros behind the first `from` words.
-fn zero_words(col: &mut [u32], from: usize)
+pub fn zero_words(col: &mut [u32], from: usize)
     requires { ⌜ from ≤ length (now col) ⌝ }
     ensures { λ _. ⌜ now (col .exit) ≡ closed 0 from (now (col .entry)) ⌝ }
 {

@@ -19,19 +19,10 @@ use Rattle.astar.specs.Reached.{Ready, Reach, start}
 use Rattle.path_finding.specs.Claims.{Goal, Right}
 use Rattle.path_finding.specs.Line.{has-link, line, table}
 use Rattle.path_finding.specs.Places.{node-at, known, start-of, ends-of, line-between, number}
-use Rattle.path_finding.proofs.Lines.{table-length}
+use Rattle.path_finding.proofs.Lines.{table-length, table-at}
 use Rattle.path_finding.proofs.Theorems.{right}
 use Rattle.line_exists.specs.Exists.{Joined}
 use Rattle.line_exists.proofs.Bridge.{chained, reached, out, has-one}
-
-table-at : (f : ℕ → ℕ) (n k : ℕ) → k < n → getD (table f n) k 0 ≡ f k
-unfolding table
-table-at f zero k h = absurd (omega arith)
-table-at f (suc n) k h = go (ℕ-discrete k n) (table-at f n k)
-  where
-    go : Dec (k ≡ n) → (k < n → getD (table f n) k 0 ≡ f k) → getD (table f n ++ (f n ∷ [])) k 0 ≡ f k
-    go (yes e) ih = rw e (getD-at (table f n) (f n) [] 0 n (table-length f n))
-    go (no ne) ih = List·getD-append (table f n) (f n ∷ []) 0 k (omega (arith, table-length f n)) ∙ ih (omega arith)
 
 empty? : (l : List ℕ) → (l ≡ []) ⊎ (l ≡ [] → ⊥)
 empty? [] = inl refl

@@ -11,11 +11,12 @@ use Rattle.nodes.specs.Graph.{Graph}
 use Rattle.nodes.specs.Wf.{Wf}
 use Rattle.scan.specs.Scan.{Anchors}
 use Rattle.graph.specs.Build.{Boxes, whole, made}
+use Rattle.graph.proofs.Coordinates.{made-stands}
 use Rattle.graph.proofs.Theorem.{made-wf, made-keeps, made-explicit}
 use Rattle.astar.specs.Reached.{LIMIT, Ready}
 use Rattle.path_finding.specs.Places.{number}
 use Rattle.line_exists.specs.Exists.{Named, Asked, Joined, Decided, LineExists}
-use Rattle.line_exists.proofs.Low.{whole-low, kept-low}
+use Rattle.line_exists.proofs.Low.{Below, stands-low}
 use Rattle.line_exists.proofs.Between.{found-by, joined-by, missed-by}
 
 module _ (b : Boxes) (s : Anchors) (x y : ℕ) (exs eys : List ℕ) (q : Asked b s x y exs eys) where
@@ -40,7 +41,7 @@ module _ (b : Boxes) (s : Anchors) (x y : ℕ) (exs eys : List ℕ) (q : Asked b
     ready : Ready G
     ready =
         let f = made-wf b s pruned (q .few) in
-        let l = kept-low LIMIT (omega arith) (whole b s) G (whole-low LIMIT (omega arith) b s (q .x-low) (q .y-low)) (f .good) keeps in
+        let l = stands-low LIMIT (omega arith) G (made-stands (Below LIMIT (omega arith)) (Below LIMIT (omega arith)) b s pruned (q .few) (q .x-low) (q .y-low)) in
         record { some = omega (arith, from .at .inside); wf = f; x-low = l .x-low; y-low = l .y-low }
 
     -- joined in the one graph exactly if in the other

@@ -1,0 +1,4 @@
+pub mod Page
+pub mod Lent
+pub mod Claims
+pub mod Cases
