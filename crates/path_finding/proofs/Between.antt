@@ -4,6 +4,7 @@ use mathlib.Core.Path.{_≡_, refl, sym, ap, _∙_, subst}
 use mathlib.Core.List.{List, [], _∷_, _++_}
 use mathlib.Core.Bool.{Bool, true, false, cond, _&&_}
 use native.Mathlib.Omega.{arith}
+use native.Mathlib.Decide.{ℕ-discrete}
 use native.Mathlib.Nat.{not-suc-le-zero}
 use lib.ListN.{length, take, length-take, drop, drop-of-length-le, length-drop}
 use lib.Dec.{ltb, eqb}
@@ -75,13 +76,23 @@ module _ (G : Graph) (x y : ℕ) (exs eys path : List ℕ) (s k : ℕ) (long : l
         length-is : length (line-between G x y exs eys) ≡ G .count - at
         length-is = ap length (between-is ∙ sym z) ∙ length-drop at path ∙ ap (λ (j : ℕ). j - at) long
 
-        pub no-line-between : at ≡ G .count → Answered G x y exs eys 11 0 path
+        no-line-between : at ≡ G .count → Answered G x y exs eys 11 0 path
         no-line-between q =
             let m : length (line-between G x y exs eys) ≡ 0 = omega (arith, length-is) in
             let b : G .count - 0 ≡ at = omega arith in
             record { number-is = number-none m; nodes-is = sym m; line-is = rw (b, between-is) z }
 
-        pub line-found : (at ≡ G .count → ⊥) → Answered G x y exs eys 0 (G .count - at) path
+        line-found : (at ≡ G .count → ⊥) → Answered G x y exs eys 0 (G .count - at) path
         line-found q =
             let b : G .count - (G .count - at) ≡ at = omega arith in
             record { number-is = number-some (omega (arith, length-is)); nodes-is = sym length-is; line-is = rw (b, between-is) z }
+
+        pub answered : (num nodes : ℕ) → num ≡ cond (eqb at (G .count)) 11 0 → nodes ≡ G .count - at → Answered G x y exs eys num nodes path
+        answered num nodes e f = go (ℕ-discrete at (G .count))
+          where
+            go : Dec (at ≡ G .count) → Answered G x y exs eys num nodes path
+            go (yes q) =
+                let u : num ≡ 11 = e ∙ ap (λ (b : Bool). cond b 11 0) (eq-eqb _ _ q) in
+                let v : nodes ≡ 0 = omega arith in
+                rw (u, v) (no-line-between q)
+            go (no q) = let u : num ≡ 0 = e ∙ ap (λ (b : Bool). cond b 11 0) (ne-eqb _ _ q) in rw (u, f) (line-found q)

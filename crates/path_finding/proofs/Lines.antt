@@ -7,9 +7,10 @@ use native.Mathlib.Omega.{arith}
 use native.Mathlib.Decide.{ℕ-discrete, decLt}
 use native.Mathlib.Nat.{le-of-suc-le-suc, not-suc-le-zero}
 use lib.ListN.{length, getD, take, drop, length-append, List·getD-append}
-use lib.Seq.{getD-append-seam}
+use lib.Seq.{getD-append-seam, getD-at}
 use lib.Dec.{ltb, eqb}
 use borrow.Author.Tests.{eq-eqb, ne-eqb, eqb-true, eqb-false}
+use Rattle.fixed.proofs.Bools.{clash}
 use Rattle.nodes.specs.Graph.{Graph, none}
 use Rattle.astar.specs.declared.Found.{Found}
 use Rattle.astar.specs.declared.Found.the-variants.{Node, Nothing}
@@ -17,7 +18,7 @@ use Rattle.astar.specs.Search.{St, chain, holds, search, found-of, line-of}
 use Rattle.astar.specs.Reached.{Ready, Below}
 use Rattle.astar.specs.Scratch.{Back, last, more, Traced}
 use Rattle.astar.proofs.Roads.{roads}
-use Rattle.astar.proofs.Line.{found-traced, line-none, line-traced, line-is}
+use Rattle.astar.proofs.Line.{found-end, found-traced, line-none, line-traced, line-is}
 use Rattle.path_finding.specs.Line.{has-link, admit, goals, line, table, Written}
 
 pub below-more : (n : ℕ) (l : List ℕ) (e : ℕ) → Below n l → e < n → Below n (l ++ (e ∷ []))
@@ -96,6 +97,18 @@ module _ (G : Graph) (w : Ready G) (es gs : List ℕ) (a : ℕ) (an : a < G .cou
   unfolding line
   a-line u h r e = rw (← eg) (e ∙ line-is G w gs a an f s ef el u h)
 
+-- where no end counts there is no line
+no-goal : (G : Graph) → Ready G → (a : ℕ) → a < G .count → Dec (search G [] a .at ≡ none) → [] ≡ line-of G [] a
+unfolding line-of holds
+no-goal G w a an (yes e) = rw (eq-eqb _ _ e)
+no-goal G w a an (no ne) = absurd (clash (found-end G w [] a an ne .1) refl)
+
+pub none-counts : (G : Graph) → Ready G → (es : List ℕ) (a : ℕ) → a < G .count → (ks : List ℕ) (m : ℕ) → m ≡ 0 → take m ks ≡ goals (G .links) es (length es) → [] ≡ line G es a
+unfolding line
+none-counts G w es a an ks m z e =
+    let h : goals (G .links) es (length es) ≡ [] = sym e ∙ ap (λ (k : ℕ). take k ks) z in
+    rw h (no-goal G w a an (ℕ-discrete _ _))
+
 pub is-line-below : (G : Graph) → Ready G → (es : List ℕ) (a : ℕ) → a < G .count → (l : List ℕ) → l ≡ line G es a → Below (G .count) l
 unfolding line
 is-line-below G w es a an l e = subst (λ (x : List ℕ). Below (G .count) x) (sym e) (line-below G w _ a an)
@@ -106,6 +119,16 @@ pub table-length : (f : ℕ → ℕ) (n : ℕ) → length (table f n) ≡ n
 unfolding table
 table-length f zero = refl
 table-length f (suc n) = length-append (table f n) (f n ∷ []) ∙ omega (arith, table-length f n)
+
+-- its entries
+pub table-at : (f : ℕ → ℕ) (n k : ℕ) → k < n → getD (table f n) k 0 ≡ f k
+unfolding table
+table-at f zero k h = absurd (omega arith)
+table-at f (suc n) k h = go (ℕ-discrete k n) (table-at f n k)
+  where
+    go : Dec (k ≡ n) → (k < n → getD (table f n) k 0 ≡ f k) → getD (table f n ++ (f n ∷ [])) k 0 ≡ f k
+    go (yes e) ih = rw e (getD-at (table f n) (f n) [] 0 n (table-length f n))
+    go (no ne) ih = List·getD-append (table f n) (f n ∷ []) 0 k (omega (arith, table-length f n)) ∙ ih (omega arith)
 
 pub table-self : (f : ℕ → ℕ) (l : List ℕ) (n : ℕ) → l ≡ table f n → l ≡ table f (length l)
 table-self f l n e = let h : n ≡ length l = sym (ap length e ∙ table-length f n) in e ∙ ap (table f) h

@@ -6,6 +6,7 @@ ghost use mathlib.Core.Bool.{true, cond};
 ghost use mathlib.Core.List.{_++_, reverse};
 ghost use Prim.Native.Nat.{ℕ, _+_, _-_, _*_, _≤_, _<_};
 ghost use lib.ListN.{length, getD, set, replicate, take, drop};
+ghost use lib.Dec.{eqb};
 ghost use Rattle.fixed.specs.Up.{BIAS, up, ups};
 ghost use Rattle.queue.specs.Queue.{NODES};
 ghost use Rattle.queue.specs.Index.{BLOCKS};
@@ -299,6 +300,9 @@ pub fn find_line(
 {
     unmark(marked);
     let m = gather(links, n, ends, marked, kept);
+    if m == 0 {
+        return n;
+    }
     let f = astar::find_path_impl(
         xs,
         ys,
@@ -345,6 +349,23 @@ pub fn write_line(
 pub struct Answer {
     pub number: u32,
     pub nodes: usize,
+}
+
+// The answer of a search between nodes whose line, of at most n nodes, would begin at `at`.
+fn answer_at(n: usize, at: usize) -> Answer
+    requires { ⌜ at ≤ n ⌝ }
+    ensures { λ r. ⌜ (r .number ≡ cond (eqb at n) 11 0) × (r .nodes ≡ n - at) ⌝ }
+{
+    if at == n {
+        return Answer {
+            number: 11,
+            nodes: 0,
+        };
+    }
+    Answer {
+        number: 0,
+        nodes: n - at,
+    }
 }
 
 // The line from the place (x, y) to one of the ends, at the end of `path`.
@@ -404,14 +425,5 @@ pub fn find_between(
         estimates,
         path,
     );
-    if at == n {
-        return Answer {
-            number: 11,
-            nodes: 0,
-        };
-    }
-    Answer {
-        number: 0,
-        nodes: n - at,
-    }
+    answer_at(n, at)
 }

@@ -6,7 +6,7 @@ use lib.ListN.{length}
 use lib.Seq.{length-take-le}
 use Rattle.fixed.proofs.Lists.{length-ups}
 use Rattle.astar.proofs.Laws.{few, x-room, y-room}
-use Rattle.path_finding.proofs.Between.{start-is, take-short, ends-below, no-start, no-end, no-line-between, line-found}
+use Rattle.path_finding.proofs.Between.{start-is, take-short, ends-below, no-start, no-end, answered}
 use borrow.Author.Needs.{needs}
 use Rattle.path_finding.proofs.find_between.Statement.{statement}
 use Rattle.path_finding.proofs.find_between.Tie as tie
@@ -62,41 +62,11 @@ same-length-9 c = search needs
 same-length-10 : tie.Need-same-length-10
 same-length-10 c = search needs
 
+answer-at-requires : tie.Need-answer-at-requires
+answer-at-requires c κs = c .before .before .before .before .before .before .before .before .before .before .before .before .before .before .before .before .find-line .ensures .0
+
 returns-3 : tie.Need-returns-3
-returns-3 c = no-line-between _ _ _ _ _ _ _ _ (c .before .before .before .before .before .before .before .before .before .before .before .before .before .before .before .before .before .find-line .kept .1 .1 .1 .1 .1 .1 .1 .1 .1 .1 .1 .1 .1 .1 .0 ∙ c .before .before .before .before .before .before .before .before .before .before .before .before .before .before .before .before .before .before .before .before .before .before .before .before .before .before .before .before .before .before .before .before .before .before .before .before .before .before .before .before .before .before .before .before .before .pre .1 .1 .path-long) (start-is _ _ _ _ _ _ (c .before .before .before .before .before .before .before .before .before .before .before .before .before .before .before .before .before .before .before .before .before .before .before .before .before .before .before .before .before .before .before .before .before .find-node .ensures)) (sym (length-ups (c .before .before .before .before .before .before .before .before .before .before .before .before .before .before .before .before .before .before .before .before .before .before .before .before .before .before .before .before .before .before .before .before .before .before .before .before .before .before .before .before .before .before .before .before .before .args .ex .now))) (c .before .before .before .before .before .before .before .before .before .before .before .before .before .before .before .before .before .before .before .before .before .before .before .before .before .before .before .before .before .before .before .before .if1 .left) _ (c .before .before .before .before .before .before .before .before .before .before .before .before .before .before .before .before .before .before .before .before .before .before .before .before .before .before .before .before .before .before .look-up .ensures .0) (not-false (c .before .before .before .before .before .before .before .before .before .before .before .before .before .before .before .before .before .before .before .before .before .before .before .before .before .before .before .before .before .before .look-up .result) (c .before .before .before .before .before .before .before .before .before .before .before .before .before .before .before .before .before .before .before .before .before .before .before .before .before .before .before .if2 .left)) _ (c .before .before .before .before .before .before .before .before .before .before .before .before .before .before .before .before .before .before .before .before .before .before .before .before .before .before .before .before .before .before .look-up .ensures .1) _ (c .before .before .before .before .before .before .before .before .before .before .before .before .before .before .before .before .before .find-line .ensures .1) (c .before .before .before .before .before .before .before .before .before .before .before .before .before .before .before .before .before .find-line .ensures .0) (c .if3 .taken)
-
-sub-t25 : tie.Need-sub-t25
-sub-t25 c = search needs
-
-same-length-11 : tie.Need-same-length-11
-same-length-11 c = search needs
-
-same-length-12 : tie.Need-same-length-12
-same-length-12 c = search needs
-
-same-length-13 : tie.Need-same-length-13
-same-length-13 c = search needs
-
-same-length-14 : tie.Need-same-length-14
-same-length-14 c = search needs
-
-same-length-15 : tie.Need-same-length-15
-same-length-15 c = search needs
-
-same-length-16 : tie.Need-same-length-16
-same-length-16 c = search needs
-
-same-length-17 : tie.Need-same-length-17
-same-length-17 c = search needs
-
-same-length-18 : tie.Need-same-length-18
-same-length-18 c = search needs
-
-same-length-19 : tie.Need-same-length-19
-same-length-19 c = search needs
-
-returns-4 : tie.Need-returns-4
-returns-4 c = line-found _ _ _ _ _ _ _ _ (c .before .before .before .before .before .before .before .before .before .before .before .before .before .before .before .before .before .find-line .kept .1 .1 .1 .1 .1 .1 .1 .1 .1 .1 .1 .1 .1 .1 .0 ∙ c .before .before .before .before .before .before .before .before .before .before .before .before .before .before .before .before .before .before .before .before .before .before .before .before .before .before .before .before .before .before .before .before .before .before .before .before .before .before .before .before .before .before .before .before .before .pre .1 .1 .path-long) (start-is _ _ _ _ _ _ (c .before .before .before .before .before .before .before .before .before .before .before .before .before .before .before .before .before .before .before .before .before .before .before .before .before .before .before .before .before .before .before .before .before .find-node .ensures)) (sym (length-ups (c .before .before .before .before .before .before .before .before .before .before .before .before .before .before .before .before .before .before .before .before .before .before .before .before .before .before .before .before .before .before .before .before .before .before .before .before .before .before .before .before .before .before .before .before .before .args .ex .now))) (c .before .before .before .before .before .before .before .before .before .before .before .before .before .before .before .before .before .before .before .before .before .before .before .before .before .before .before .before .before .before .before .before .if1 .left) _ (c .before .before .before .before .before .before .before .before .before .before .before .before .before .before .before .before .before .before .before .before .before .before .before .before .before .before .before .before .before .before .look-up .ensures .0) (not-false (c .before .before .before .before .before .before .before .before .before .before .before .before .before .before .before .before .before .before .before .before .before .before .before .before .before .before .before .before .before .before .look-up .result) (c .before .before .before .before .before .before .before .before .before .before .before .before .before .before .before .before .before .before .before .before .before .before .before .before .before .before .before .if2 .left)) _ (c .before .before .before .before .before .before .before .before .before .before .before .before .before .before .before .before .before .before .before .before .before .before .before .before .before .before .before .before .before .before .look-up .ensures .1) _ (c .before .before .before .before .before .before .before .before .before .before .before .before .before .before .before .before .before .find-line .ensures .1) (c .before .before .before .before .before .before .before .before .before .before .before .before .before .before .before .before .before .find-line .ensures .0) (c .if3 .left)
+returns-3 c = answered _ _ _ _ _ _ _ _ (c .before .before .before .before .before .before .before .before .before .before .before .before .before .before .before .before .before .find-line .kept .1 .1 .1 .1 .1 .1 .1 .1 .1 .1 .1 .1 .1 .1 .0 ∙ c .before .before .before .before .before .before .before .before .before .before .before .before .before .before .before .before .before .before .before .before .before .before .before .before .before .before .before .before .before .before .before .before .before .before .before .before .before .before .before .before .before .before .before .before .before .pre .1 .1 .path-long) (start-is _ _ _ _ _ _ (c .before .before .before .before .before .before .before .before .before .before .before .before .before .before .before .before .before .before .before .before .before .before .before .before .before .before .before .before .before .before .before .before .before .find-node .ensures)) (sym (length-ups (c .before .before .before .before .before .before .before .before .before .before .before .before .before .before .before .before .before .before .before .before .before .before .before .before .before .before .before .before .before .before .before .before .before .before .before .before .before .before .before .before .before .before .before .before .before .args .ex .now))) (c .before .before .before .before .before .before .before .before .before .before .before .before .before .before .before .before .before .before .before .before .before .before .before .before .before .before .before .before .before .before .before .before .if1 .left) _ (c .before .before .before .before .before .before .before .before .before .before .before .before .before .before .before .before .before .before .before .before .before .before .before .before .before .before .before .before .before .before .look-up .ensures .0) (not-false (c .before .before .before .before .before .before .before .before .before .before .before .before .before .before .before .before .before .before .before .before .before .before .before .before .before .before .before .before .before .before .look-up .result) (c .before .before .before .before .before .before .before .before .before .before .before .before .before .before .before .before .before .before .before .before .before .before .before .before .before .before .before .if2 .left)) _ (c .before .before .before .before .before .before .before .before .before .before .before .before .before .before .before .before .before .before .before .before .before .before .before .before .before .before .before .before .before .before .look-up .ensures .1) _ (c .before .before .before .before .before .before .before .before .before .before .before .before .before .before .before .before .before .find-line .ensures .1) (c .before .before .before .before .before .before .before .before .before .before .before .before .before .before .before .before .before .find-line .ensures .0) _ _ (c .answer-at .ensures .0) (c .answer-at .ensures .1)
 
 pub find-between-spec : {M : Type 1} → statement M
 find-between-spec =
@@ -110,6 +80,7 @@ find-between-spec =
     slice-reshare-prefix-find-line
     slice-aggregate-find-line
     find-line-requires
+    answer-at-requires
     same-length-2
     same-length-3
     same-length-4
@@ -119,15 +90,4 @@ find-between-spec =
     same-length-8
     same-length-9
     same-length-10
-    returns-3
-    sub-t25
-    same-length-11
-    same-length-12
-    same-length-13
-    same-length-14
-    same-length-15
-    same-length-16
-    same-length-17
-    same-length-18
-    same-length-19
-    returns-4)
+    returns-3)

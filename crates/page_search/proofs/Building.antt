@@ -1,0 +1,111 @@
+-- The search on the graph that is handed back is the search on the page.
+use mathlib.Core.Path.{_≡_, refl, sym, ap, _∙_}
+use mathlib.Core.Bool.{Bool, true, false, cond}
+use mathlib.Core.List.{List, [], _∷_, _++_}
+use Prim.Native.Nat.{ℕ, zero, suc, _+_, _-_, _*_, _<_, _≤_}
+use native.Mathlib.Omega.{arith}
+use borrow.Author.Tests.{le-ltb}
+use lib.Dec.{ltb}
+use lib.IntN.{ℤ}
+use lib.ListN.{length, getD}
+use Rattle.fixed.specs.Constants.{BOXES}
+use Rattle.fixed.specs.Up.{BIAS, ups}
+use Rattle.queue.specs.Index.{BLOCKS}
+use Rattle.nodes.specs.Graph.{Graph, NODES}
+use Rattle.nodes.specs.Lent.{graph}
+use Rattle.astar.specs.Reached.{LIMIT, Ready}
+use Rattle.path_finding.specs.Line.{table, place-at, kind-at, direction-at, Written}
+use Rattle.path_finding.specs.Places.{line-between}
+use Rattle.search.specs.Searched.{Searched, Scratch}
+use Rattle.anchors.specs.Records.{Records}
+use Rattle.page_graph.specs.Page.{crowded, page-graph, number}
+use Rattle.page_graph.proofs.Theorem.{page-sound, page-made, page-nodes}
+use Rattle.page_graph.specs.Lent.{Asked, Scratch as GraphScratch, Answered}
+use Rattle.page_search.specs.Page.{CROWDED, searchNumber, searchLine, PageSearched}
+use Rattle.page_search.specs.Lent.{Tried, Room, GraphRoom, PageRoom}
+use Rattle.page_search.specs.Exists.{Sound}
+use Rattle.page_search.proofs.Ready.{page-ready}
+
+-- ---- an empty line is written alike on every graph
+
+table-same : (f g : ℕ → ℕ) → ((k : ℕ) → f k ≡ g k) → (n : ℕ) → table f n ≡ table g n
+unfolding table
+table-same f g h zero = refl
+table-same f g h (suc n) = rw (table-same f g h n, h n)
+
+no-place : (cs : List ℕ) (k : ℕ) → place-at cs [] k ≡ BIAS
+unfolding place-at
+no-place cs k = rw (le-ltb k 0 (omega arith))
+
+no-way : (ls : List ℕ) (k : ℕ) → direction-at ls [] k ≡ 0
+unfolding direction-at
+no-way ls k = rw (le-ltb (k + 1) 0 (omega arith))
+
+written-none : (cx cy ls dx dy ms a b c d : List ℕ) → Written cx cy ls [] a b c d → Written dx dy ms [] a b c d
+written-none cx cy ls dx dy ms a b c d w =
+    record {
+      x-is = w .x-is ∙ table-same (place-at cx []) (place-at dx []) (λ k. no-place cx k ∙ sym (no-place dx k)) (length a);
+      y-is = w .y-is ∙ table-same (place-at cy []) (place-at dy []) (λ k. no-place cy k ∙ sym (no-place dy k)) (length b);
+      kind-is = w .kind-is;
+      direction-is = w .direction-is ∙ table-same (direction-at ls []) (direction-at ms []) (λ k. no-way ls k ∙ sym (no-way ms k)) (length d);
+    }
+
+-- ---- the lent lists hold the graph
+
+module _ (r : Records) (s : Sound r) (pruned : Bool) (n : ℕ) (xs ys : List ℤ) (links marks : List ℕ) (nx ny nl nm : ℕ) (a : Answered n xs ys links marks nx ny nl nm (crowded r) (page-graph r pruned)) where
+  abbrev G : Graph
+  G = page-graph r pruned
+
+  abbrev H : Graph
+  H = graph n xs ys links marks
+
+  count-is : crowded r ≡ false → n ≡ G .count
+  unfolding number
+  count-is e = rw e at (a .count)
+
+  over : crowded r ≡ true → NODES < n
+  unfolding number
+  over e = omega (arith, rw e at (a .count))
+
+  under : crowded r ≡ false → n ≤ NODES
+  under e = omega (arith, count-is e, page-sound r pruned e .wf .few)
+
+  graph-is : crowded r ≡ false → H ≡ G
+  graph-is e = page-nodes a (under e) (page-sound r pruned e .wf)
+
+  pub ready : n ≤ NODES → 0 < n → Ready H
+  ready h p = let e = page-made a h in rw (graph-is e) (page-ready r s e pruned (omega (arith, count-is e)))
+
+  pub page-searched : (x y : ℕ) (exs eys : List ℕ) (num nodes : ℕ) (lx ly kinds dirs : List ℕ) → Tried n H x y exs eys num nodes lx ly kinds dirs → PageSearched r pruned x y exs eys num nodes lx ly kinds dirs
+  unfolding searchNumber searchLine
+  page-searched x y exs eys num nodes lx ly kinds dirs t = go (crowded r) refl
+    where
+      go : (b : Bool) → crowded r ≡ b → PageSearched r pruned x y exs eys num nodes lx ly kinds dirs
+      go true e =
+          let f = t .full (over e) in
+          record { number-is = rw e (f .0); nodes-is = rw e (f .1); written = rw e (written-none [] [] [] (G .xs) (G .ys) (G .links) lx ly kinds dirs (f .2)) }
+      go false e =
+          let f = rw (graph-is e) at (t .fits (under e)) in
+          record { number-is = rw e (f .number-is); nodes-is = rw e (f .nodes-is); written = rw e (f .written) }
+
+-- ---- sizes
+
+pub scratch : {ends marked kept g pred queue blocks estimates path : List ℕ} → Room ends marked kept g pred queue estimates path → BLOCKS ≤ length blocks → Scratch ends marked kept g pred queue blocks estimates path
+scratch r h =
+    record { ends-room = r .ends-room; marked-room = r .marked-room; kept-room = r .kept-room; g-room = r .g-room; pred-room = r .pred-room; queue-room = r .queue-room; blocks-room = h; estimates-room = r .estimates-room; path-room = r .path-room }
+
+pub graph-scratch : {bx by ex ey cx cy : List ℤ} {ways own table : List ℕ} {ax ay : List ℤ} → GraphRoom cx cy ways own table ax ay → BOXES ≤ length bx → BOXES ≤ length by → BOXES ≤ length ex → BOXES ≤ length ey → GraphScratch bx by ex ey cx cy ways own table ax ay
+graph-scratch r a b c d =
+    record { min-x-room = a; min-y-room = b; max-x-room = c; max-y-room = d; anchor-room = r .anchor-room; table-room = r .table-room; axis-x-room = r .axis-x-room; axis-y-room = r .axis-y-room }
+
+module _ {lx ly cx cy : List ℤ} {ways own table marked g queue estimates path : List ℕ} (r : PageRoom lx ly cx cy ways own table marked g queue estimates path) where
+  pub graph-room : GraphRoom cx cy ways own table lx ly
+  graph-room =
+      record { anchor-room = record { xs-held = r .cx-room; ys-held = r .cy-room; dirs-held = omega arith; boxes-held = omega arith }; table-room = r .table-room; axis-x-room = r .lx-room; axis-y-room = r .ly-room }
+
+  pub search-room : (ways′ own′ table′ : List ℕ) → length ways′ ≡ length ways → length own′ ≡ length own → length table′ ≡ length table → Room ways′ marked own′ g table′ queue estimates path
+  search-room ways′ own′ table′ a b c =
+      record { ends-room = omega arith; marked-room = r .marked-room; kept-room = omega arith; g-room = r .g-room; pred-room = omega arith; queue-room = r .queue-room; estimates-room = r .estimates-room; path-room = r .path-room }
+
+pub sound-of : {r : Records} → Asked r → ((k : ℕ) → getD (r .ports) k 0 < LIMIT) → ((k : ℕ) → getD (r .ends) k 0 < LIMIT) → Sound r
+sound-of a p e = record { rows = a; port-words = p; end-words = e }

@@ -1,0 +1,4 @@
+pub mod Page
+pub mod Lent
+pub mod Exists
+pub mod Cases

@@ -1,0 +1,36 @@
+-- 01, 'Search' and 'Numbers handed back' 0, 9, 10, 11: a search on a built graph, as it is handed back.
+use Prim.Native.Nat.{ℕ, _≤_}
+use mathlib.Core.Path.{_≡_}
+use mathlib.Core.List.{List}
+use lib.ListN.{length}
+use Rattle.nodes.specs.Graph.{Graph, NODES}
+use Rattle.queue.specs.Index.{BLOCKS}
+use Rattle.path_finding.specs.Line.{Written}
+use Rattle.path_finding.specs.Places.{number, line-between}
+
+-- 01, 'Limits': 4,096 ends a search
+abbrev pub ENDS : ℕ
+ENDS = 4096
+
+-- the number, how many nodes the line has, and in the four outputs, to the end of each, the line with zeros behind it; no line, so zeros alone, at 9, 10 and 11
+pub record Searched (G : Graph) (x y : ℕ) (exs eys : List ℕ) (num nodes : ℕ) (lx ly kinds dirs : List ℕ) : Type 0 where
+  pub number-is : num ≡ number G x y exs eys
+  pub nodes-is : nodes ≡ length (line-between G x y exs eys)
+  pub written : Written (G .xs) (G .ys) (G .links) (line-between G x y exs eys) lx ly kinds dirs
+
+-- the ends: as many x as y, at most 4,096
+pub record Ended {A : Type 0} (ex ey : List A) : Type 0 where
+  pub even : length ey ≡ length ex
+  pub most : length ex ≤ ENDS
+
+-- the scratch of a search: its sizes. What it holds does not matter
+pub record Scratch (ends marked kept g pred queue blocks estimates path : List ℕ) : Type 0 where
+  pub ends-room : ENDS ≤ length ends
+  pub marked-room : NODES ≤ length marked
+  pub kept-room : ENDS ≤ length kept
+  pub g-room : NODES ≤ length g
+  pub pred-room : NODES ≤ length pred
+  pub queue-room : NODES ≤ length queue
+  pub blocks-room : BLOCKS ≤ length blocks
+  pub estimates-room : NODES ≤ length estimates
+  pub path-room : NODES ≤ length path
