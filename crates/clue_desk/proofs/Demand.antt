@@ -23,9 +23,12 @@ use Rattle.desk.proofs.Demand.{Good, says-it, leaves-it, rebuilt as lists-rebui
 use Rattle.page_text.specs.Reading.{readText}
 use Rattle.page_text.specs.Words.{REFUSAL, isLent, readNumber, readWords, readRefusal, textWords}
 use Rattle.page_text.proofs.Turns.{decoded}
-use Rattle.clue_desk.specs.Calls.{Call, Lent, number, words, refusal, numberOf, refusalOf, after, run, isUndo, lent, enough, says, tells, makes, told, toldRefusal, turn, turns}
+use Rattle.desk_search.specs.Query.{Query}
+use Rattle.desk_search.specs.Search.{Outputs as Line, says as searchSays, shows as searchShows}
+use Rattle.desk_search.proofs.Booked.{says-whole, shows-whole, same-search, same-shown}
+use Rattle.clue_desk.specs.Calls.{Call, Lent, Outputs, refused, lined, number, words, outputs, numberOf, outputsOf, after, run, isUndo, lent, enough, says, tells, makes, told, toldOutputs, turn, turns}
 use Rattle.clue_desk.specs.Calls.{ActsAsBook, rebuilt, Demand}
-use Rattle.clue_desk.specs.Calls.Call.{edit, read}
+use Rattle.clue_desk.specs.Calls.Call.{edit, read, search}
 use Rattle.clue_desk.proofs.Read.{length-text, ok-text, none-ok, valid-lists}
 
 -- ---- one call on a whole desk
@@ -50,11 +53,13 @@ module _ (ws : List ℕ) (g : Good ws) (n : ℕ) where
   unfolding lent editNumberOf readNumber
   says-all (edit c) = says-it ws g (lent c n)
   says-all (read text out) = ap (λ (b : Bool). cond b (readText text .number) 1) (is-lent out)
+  says-all (search q o) = says-whole ws n (g .long) o q
 
-  tells-all : (c : Call) → refusal c (take n ws) ≡ tells c n
+  tells-all : (c : Call) → outputs c (take n ws) ≡ tells c n (bookOf ws)
   unfolding readRefusal
   tells-all (edit c) = refl
   tells-all (read text out) = rw (is-lent out)
+  tells-all (search q o) = ap lined (shows-whole ws n (g .long) o q)
 
   -- what a reading leaves
   module _ (text : List ℕ) where
@@ -85,6 +90,7 @@ module _ (ws : List ℕ) (g : Good ws) (n : ℕ) where
   unfolding lent editAfter readWords
   leaves-all (edit c) = leaves-it ws g (lent c n)
   leaves-all (read text out) = rw (is-lent out) (reads text out (enough n out) refl)
+  leaves-all (search q o) = rw (take-append-drop n ws) (g, refl)
 
 -- ---- lists of calls
 good-after : (c : Lent) (ws : List ℕ) → Good ws → (Good (after c ws)) × (bookOf (after c ws) ≡ turn c (bookOf ws))
@@ -116,17 +122,17 @@ number-told : (ws : List ℕ) → Good ws → (c : Lent) → numberOf c ws ≡ t
 unfolding numberOf told
 number-told ws g c = says-all ws g (c .size) (c .call)
 
-refusal-told : (ws : List ℕ) → Good ws → (c : Lent) → refusalOf c ws ≡ toldRefusal c
-unfolding refusalOf toldRefusal
-refusal-told ws g c = tells-all ws g (c .size) (c .call)
+outputs-told : (ws : List ℕ) → Good ws → (c : Lent) → outputsOf c ws ≡ toldOutputs c (bookOf ws)
+unfolding outputsOf toldOutputs
+outputs-told ws g c = tells-all ws g (c .size) (c .call)
 
 pub acts : ActsAsBook
 acts ws e cs =
     let g = good-run cs ws (good-empty ws e) in
     let b = book-run cs ws noBook (good-empty ws e) (empty-book ws e) in
-    (b, λ c. (number-told (run cs ws) g c ∙ ap (told c) b, refusal-told (run cs ws) g c))
+    (b, λ c. (number-told (run cs ws) g c ∙ ap (told c) b, outputs-told (run cs ws) g c ∙ ap (toldOutputs c) b))
 
--- ---- the number of a call that is no undo goes by the lists alone
+-- ---- the number and the outputs of a call that is no undo go by the lists alone
 module _ (a b : Book) (v : valid a ≡ true) (w : valid b ≡ true) (e : a .lists ≡ b .lists) where
   same-edit : (c : Edit) → editUndoes c ≡ false → editSays c a ≡ editSays c b
   same-edit (add k r) u = rw (v, w, e)
@@ -137,10 +143,20 @@ module _ (a b : Book) (v : valid a ≡ true) (w : valid b ≡ true) (e : a .list
   unfolding editTold lent
   same-says (edit c) n u = ap (λ (m : ℕ). cond (leb DESK n) m 1) (same-edit c u)
   same-says (read text out) n u = refl
+  same-says (search q o) n u = same-search a b v w e n o q
+
+  same-tells : (c : Call) (n : ℕ) → tells c n a ≡ tells c n b
+  same-tells (edit c) n = refl
+  same-tells (read text out) n = refl
+  same-tells (search q o) n = ap lined (same-shown a b v w e n o q)
 
   same-told : (c : Lent) → isUndo (c .call) ≡ false → told c a ≡ told c b
   unfolding told
   same-told c u = same-says (c .call) (c .size) u
+
+  same-outputs : (c : Lent) → toldOutputs c a ≡ toldOutputs c b
+  unfolding toldOutputs
+  same-outputs c = same-tells (c .call) (c .size)
 
 pub demand : Demand
 unfolding rebuilt
@@ -154,6 +170,6 @@ demand ws new e f cs =
       same,
       λ c u. (
         number-told r g c ∙ same-told (bookOf r) (bookOf t) (g .book) (h .book) (sym same) c u ∙ sym (number-told t h c),
-        refusal-told r g c ∙ sym (refusal-told t h c),
+        outputs-told r g c ∙ same-outputs (bookOf r) (bookOf t) (g .book) (h .book) (sym same) c ∙ sym (outputs-told t h c),
       ),
     )

@@ -3,15 +3,18 @@ ghost use mathlib.Core.Path.{_≡_};
 ghost use Rattle.desk.specs.declared.Kind.{Kind};
 ghost use Rattle.desk.specs.Calls.{boxRecord, pointRecord, netRecord};
 ghost use Rattle.desk.specs.Calls.Call.{add, retire, undo as undo-call};
-ghost use Rattle.clue_desk.specs.Calls.{number, words, refusal as refusal-of};
-ghost use Rattle.clue_desk.specs.Calls.Call.{edit, read};
+ghost use Rattle.clue_desk.specs.Calls.{number, words, outputs};
+ghost use Rattle.fixed.specs.Up.{up};
+ghost use Rattle.desk_search.specs.Query.{query};
+ghost use Rattle.desk_search.specs.Search.{outputs as line-of};
+ghost use Rattle.clue_desk.specs.Calls.Call.{edit, read, search as search-call};
 
 // Reads a page text: 0, or 16 with the 1-based line and the inner number, or 1 if the desk or the refusal's words are lent too small.
 #[no_mangle]
 pub extern "C" fn read_text(desk: &mut [u32], text: &[u8], refusal: &mut [u32]) -> u32
     ensures { λ r. ⌜ r ≡ number (read (now (text .entry)) (now (refusal .entry))) (now (desk .entry)) ⌝ }
     ensures { λ _. ⌜ now (desk .exit) ≡ words (read (now (text .entry)) (now (refusal .entry))) (now (desk .entry)) ⌝ }
-    ensures { λ _. ⌜ now (refusal .exit) ≡ refusal-of (read (now (text .entry)) (now (refusal .entry))) (now (desk .entry)) ⌝ }
+    ensures { λ _. ⌜ now (refusal .exit) ≡ outputs (read (now (text .entry)) (now (refusal .entry))) (now (desk .entry)) .refusal ⌝ }
 {
     page_text::read_text(desk, text, refusal)
 }
@@ -87,4 +90,25 @@ pub extern "C" fn undo(desk: &mut [u32]) -> u32
     ensures { λ _. ⌜ now (desk .exit) ≡ words (edit undo-call) (now (desk .entry)) ⌝ }
 {
     desk::undo(desk)
+}
+
+// A search from the place (x, y) to one of the ends (ex, ey), on the graph pruned (1) or not (0). The line's places, kinds (S, N, E) and directions are left in
+// lx, ly, kinds and dirs, with zeros behind it; its last node alone has the kind E.
+#[no_mangle]
+pub extern "C" fn search(
+    desk: &[u32],
+    prune: u32,
+    x: i32,
+    y: i32,
+    ex: &[i32],
+    ey: &[i32],
+    lx: &mut [i32],
+    ly: &mut [i32],
+    kinds: &mut [u8],
+    dirs: &mut [u8],
+) -> u32
+    ensures { λ r. ⌜ r ≡ number (search-call (query prune (up x) (up y) (now (ex .entry)) (now (ey .entry))) (line-of (now (lx .entry)) (now (ly .entry)) (now (kinds .entry)) (now (dirs .entry)))) (now (desk .entry)) ⌝ }
+    ensures { λ _. ⌜ line-of (now (lx .exit)) (now (ly .exit)) (now (kinds .exit)) (now (dirs .exit)) ≡ outputs (search-call (query prune (up x) (up y) (now (ex .entry)) (now (ey .entry))) (line-of (now (lx .entry)) (now (ly .entry)) (now (kinds .entry)) (now (dirs .entry)))) (now (desk .entry)) .line ⌝ }
+{
+    desk_search::search(desk, prune, x, y, ex, ey, lx, ly, kinds, dirs)
 }

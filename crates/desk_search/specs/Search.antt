@@ -1,0 +1,101 @@
+-- 01, 'Search' and 'Numbers handed back': a search on a desk. What it answers is a definition over the lists, the arguments and the lent sizes alone.
+-- The line is handed back entry by entry, zeros behind it; its last node, and no other, has the kind E, so the kinds say how many nodes it has.
+use mathlib.Core.List.{List}
+use mathlib.Core.Bool.{Bool, cond, _&&_}
+use Prim.Native.Nat.{ℕ}
+use lib.Dec.{eqb, leb}
+use lib.IntN.{ℤ}
+use lib.ListN.{length, replicate}
+use Rattle.fixed.specs.Up.{BIAS, ups}
+use Rattle.anchors.specs.Records.{Records}
+use Rattle.nodes.specs.Graph.{Graph, NODES}
+use Rattle.path_finding.specs.Line.{table, place-at, kind-at, direction-at}
+use Rattle.page_graph.specs.Page.{page-graph}
+use Rattle.page_search.specs.Page.{PageSearched, searchNumber as pageNumber, searchLine as pageLine}
+use Rattle.page_search.specs.Lent.{Tried}
+use Rattle.desk.specs.Sizes.{DESK}
+use Rattle.desk.specs.Book.{Lists, Book, valid, answer}
+use Rattle.desk.specs.Desk.{bookOf}
+use Rattle.select.specs.Page.{pageOf}
+use Rattle.desk_search.specs.Query.{Query, isPruned, okQuery}
+
+-- the line's places, counted from −2^31, kinds and directions
+pub record Outputs : Type 0 where
+  pub xs : List ℕ
+  pub ys : List ℕ
+  pub kinds : List ℕ
+  pub dirs : List ℕ
+
+abbrev pub outputs : List ℤ → List ℤ → List ℕ → List ℕ → Outputs
+outputs lx ly kinds dirs = record { xs = ups lx; ys = ups ly; kinds = kinds; dirs = dirs }
+
+-- ---- by the lists alone
+
+unfoldable pub graphOf : Lists → Query → Graph
+graphOf l q = page-graph (pageOf l) (isPruned q)
+
+-- 8, or 9, 10, 11 or 0 on the graph
+unfoldable pub searchNumber : Lists → Query → ℕ
+searchNumber l q = pageNumber (pageOf l) (isPruned q) (q .x) (q .y) (q .end-x) (q .end-y)
+
+-- 'a line is its nodes from start to end'
+unfoldable pub searchLine : Lists → Query → List ℕ
+searchLine l q = pageLine (pageOf l) (isPruned q) (q .x) (q .y) (q .end-x) (q .end-y)
+
+-- 'place, kind, direction onward', in lists of the lent lengths, zeros behind the line
+unfoldable pub written : Graph → List ℕ → Outputs → Outputs
+written g line o =
+    record {
+      xs = table (place-at (g .xs) line) (length (o .xs));
+      ys = table (place-at (g .ys) line) (length (o .ys));
+      kinds = table (kind-at (length line)) (length (o .kinds));
+      dirs = table (direction-at (g .links) line) (length (o .dirs));
+    }
+
+-- 'outputs zero'
+unfoldable pub zeros : Outputs → Outputs
+zeros o =
+    record {
+      xs = replicate (length (o .xs)) BIAS;
+      ys = replicate (length (o .ys)) BIAS;
+      kinds = replicate (length (o .kinds)) 0;
+      dirs = replicate (length (o .dirs)) 0;
+    }
+
+-- by the number: 'outputs, zeros behind them' at 0, else 'outputs zero'
+unfoldable pub left : ℕ → Lists → Query → Outputs → Outputs
+left n l q o = cond (eqb n 0) (written (graphOf l q) (searchLine l q) o) (zeros o)
+
+-- ---- of a call that is lent `size` words of the desk
+
+-- the desk is lent whole, and the lists have room for 4,096 nodes
+unfoldable pub isLent : ℕ → Outputs → Bool
+isLent size o =
+    leb DESK size && ((leb NODES (length (o .xs)) && leb NODES (length (o .ys))) && (leb NODES (length (o .kinds)) && leb NODES (length (o .dirs))))
+
+-- 2 comes before the numbers of the search
+unfoldable pub tested : Book → Query → ℕ
+tested b q = answer (valid b) (okQuery q) (searchNumber (b .lists) q)
+
+unfoldable pub says : ℕ → Outputs → Query → Book → ℕ
+says size o q b = cond (isLent size o) (tested b q) 1
+
+-- 'everything unchanged' at 1
+unfoldable pub shows : ℕ → Outputs → Query → Book → Outputs
+shows size o q b = cond (isLent size o) (left (tested b q) (b .lists) q o) o
+
+-- on the words of a desk: what the function's contract says
+abbrev pub deskNumber : List ℕ → Outputs → Query → ℕ
+deskNumber ws o q = says (length ws) o q (bookOf ws)
+
+abbrev pub deskOutputs : List ℕ → Outputs → Query → Outputs
+deskOutputs ws o q = shows (length ws) o q (bookOf ws)
+
+-- ---- the functions below: on a graph that was handed back with the count n, and on a page's records
+pub record Ran (n : ℕ) (G : Graph) (x y : ℕ) (exs eys : List ℕ) (num : ℕ) (lx ly kinds dirs : List ℕ) : Type 0 where
+  pub nodes : ℕ
+  pub tried : Tried n G x y exs eys num nodes lx ly kinds dirs
+
+pub record PageRan (r : Records) (pruned : Bool) (x y : ℕ) (exs eys : List ℕ) (num : ℕ) (lx ly kinds dirs : List ℕ) : Type 0 where
+  pub nodes : ℕ
+  pub searched : PageSearched r pruned x y exs eys num nodes lx ly kinds dirs

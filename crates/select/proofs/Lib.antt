@@ -1,0 +1,4 @@
+pub mod Flat
+pub mod Listed
+pub mod Ok
+pub mod Asked
