@@ -1,5 +1,5 @@
 pub mod Pairs
 pub mod Limits
 pub mod Starred
-mod Tries
+pub mod Tries
 pub mod Joins

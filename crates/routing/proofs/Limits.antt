@@ -26,7 +26,7 @@ node-m : (L : Line) (J : Junction) (i : ℕ) (W : Wires) → pushNode L J i W .n
 unfolding pushNode pushCorner pushEnd
 node-m L J i W = cond-m (straight (L .kinds) (L .ways) i) _ _ _ refl refl
 
-nodes-m : (L : Line) (J : Junction) (k : ℕ) (W : Wires) → pushNodes L J k W .net .m ≡ W .net .m + k
+pub nodes-m : (L : Line) (J : Junction) (k : ℕ) (W : Wires) → pushNodes L J k W .net .m ≡ W .net .m + k
 unfolding pushNodes
 nodes-m L J zero W = omega arith
 nodes-m L J (suc k) W = omega (arith, node-m L J (suc k) (pushNodes L J k W), nodes-m L J k W)

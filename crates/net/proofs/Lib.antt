@@ -1,0 +1,4 @@
+pub mod Leaves
+pub mod Found
+pub mod Branching
+pub mod Cases

@@ -1,0 +1,4 @@
+pub mod Points
+pub mod Nets
+pub mod Lent
+pub mod Cases
