@@ -1,0 +1,3 @@
+pub mod Separated
+pub mod Layout
+pub mod Answer

@@ -1,0 +1,3 @@
+mod Rows
+mod Nets
+pub mod Theorem
