@@ -1,2 +1,4 @@
 mod Pieces
 pub mod Writing
+pub mod Room
+pub mod Fits

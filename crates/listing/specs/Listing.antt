@@ -1,9 +1,10 @@
 -- 01, 'Program `wires`': the listing's bytes. Each line opens with its word; tabs part fields, LF ends it; indices start at 0 in each net.
+use mathlib.Core.Path.{_≡_}
 use mathlib.Core.Bool.{cond}
 use mathlib.Core.List.{List, [], _∷_, _++_}
 use Prim.Native.Nat.{ℕ, zero, suc, _+_, _-_, _*_, _%_, _<_, _≤_}
 use lib.Dec.{eqb}
-use lib.ListN.{length, getD}
+use lib.ListN.{length, getD, take}
 use Rattle.decimals.specs.Bytes.{TAB, LF}
 use Rattle.decimals.specs.Write.{digits, signed, tabbed}
 
@@ -82,3 +83,7 @@ refusedLine at inner = line (114 ∷ 101 ∷ 102 ∷ 117 ∷ 115 ∷ 101 ∷ 100
 -- a crowded page only `page`, 8
 unfoldable pub crowdedLine : List ℕ
 crowdedLine = line (112 ∷ 97 ∷ 103 ∷ 101 ∷ []) (digits 8 ∷ [])
+
+-- the first n bytes of a buffer are there; the second part follows from the first, and is what lending them asks
+abbrev pub First : ℕ → List ℕ → Type 0
+First n buf = (n ≤ length buf) × (n ≡ length (take n buf))

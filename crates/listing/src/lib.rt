@@ -6,7 +6,7 @@ ghost use lib.ListN.{length, getD};
 ghost use Rattle.fixed.specs.Up.{ups};
 ghost use Rattle.decimals.specs.Bytes.{TAB, LF};
 ghost use Rattle.decimals.specs.Write.{digits, signed, field, Put};
-ghost use Rattle.listing.specs.Listing.{upTo, line, page, vertexLine, joinLine, joinAt, joinsOf, netLine, netPart, netAt, listing, refusedLine, crowdedLine};
+ghost use Rattle.listing.specs.Listing.{upTo, line, page, vertexLine, joinLine, joinAt, joinsOf, netLine, netPart, netAt, listing, refusedLine, crowdedLine, First};
 
 // Writes two numbers as fields.
 fn put_pair(buf: &mut [u8], at: usize, a: u32, b: u32) -> usize
@@ -279,6 +279,7 @@ pub fn write_listing(
     requires { ⌜ length (listing (page (now nets) (now ids) (ups (now xs)) (ups (now ys)) (now kinds) (now junctions)) n) ≤ length (now buf) ⌝ }
     requires { ⌜ n < 4294967296 ⌝ }
     ensures { λ r. ⌜ Put (now (buf .entry)) 0 (listing (page (now (nets .entry)) (now (ids .entry)) (ups (now (xs .entry))) (ups (now (ys .entry))) (now (kinds .entry)) (now (junctions .entry))) n) (now (buf .exit)) r ⌝ }
+    ensures { λ r. ⌜ First r (now (buf .exit)) ⌝ }
 {
     let mut next = 0;
     let mut i = 0;
@@ -291,8 +292,9 @@ pub fn write_listing(
 
 // Writes what a refused text prints.
 pub fn write_refused(buf: &mut [u8], at: u32, inner: u32) -> usize
-    requires { ⌜ length (refusedLine at inner) ≤ length (now buf) ⌝ }
+    requires { ⌜ 30 ≤ length (now buf) ⌝ }
     ensures { λ r. ⌜ Put (now (buf .entry)) 0 (refusedLine at inner) (now (buf .exit)) r ⌝ }
+    ensures { λ r. ⌜ First r (now (buf .exit)) ⌝ }
 {
     let word = decimals::put_bytes(buf, 0, b"refused");
     let pair = put_pair(buf, word, at, inner);
@@ -303,6 +305,7 @@ pub fn write_refused(buf: &mut [u8], at: u32, inner: u32) -> usize
 pub fn write_crowded(buf: &mut [u8]) -> usize
     requires { ⌜ length crowdedLine ≤ length (now buf) ⌝ }
     ensures { λ r. ⌜ Put (now (buf .entry)) 0 crowdedLine (now (buf .exit)) r ⌝ }
+    ensures { λ r. ⌜ First r (now (buf .exit)) ⌝ }
 {
     decimals::put_bytes(buf, 0, b"page\t8\n")
 }

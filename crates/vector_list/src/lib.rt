@@ -1,6 +1,17 @@
 // Reads the fixed list of answers: lines of fields parted by tabs, with sections of counted bytes between them.
+ghost use mathlib.Core.Path.{_≡_};
 ghost use Prim.Native.Nat.{_≤_};
 ghost use lib.ListN.{length};
+
+// The size of a list at most.
+pub const LIST: usize = 2097152;
+
+// Room for a list.
+pub fn room() -> [u8; LIST]
+    ensures { λ r. ⌜ 2097152 ≡ length r ⌝ }
+{
+    [0; LIST]
+}
 
 // A field: its number's word (`decimals::BASE` above the number), or 0 where it is none, and the place behind it and its separator.
 pub struct Entry {

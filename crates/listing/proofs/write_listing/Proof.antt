@@ -7,6 +7,7 @@ use borrow.Author.Needs.{needs}
 use Rattle.fixed.specs.Up.{ups}
 use Rattle.listing.specs.Listing.{page, netAt, listing}
 use Rattle.listing.proofs.Writing.{Writing, writing-begins, writing-room, writing-on, written-all}
+use Rattle.listing.proofs.Room.{first}
 use Rattle.listing.proofs.write_listing.Statement.{statement}
 use Rattle.listing.proofs.write_listing.Tie as tie
 
@@ -41,7 +42,9 @@ same-length c = c .before .loop .inv .long
 
 returns : tie.Need-returns Inv-loop μ-loop
 unfolding listing
-returns c = written-all (c .before .loop .inv) (omega arith)
+returns c =
+    let p = written-all (c .before .loop .inv) (omega arith) in
+    (p, first _ _ _ _ p (c .before .loop .inv .long) (c .before .before .before .before .before .before .before .pre .0))
 
 pub write-listing-spec : {M : Type 1} → statement M
 write-listing-spec =

@@ -1,0 +1,52 @@
+-- The place stays in the list.
+use Prim.Native.Nat.{_≤_, _-_}
+use lib.ListN.{length}
+use borrow.Author.Needs.{needs}
+use Rattle.vectors.proofs.query.are_fields.Statement.{statement}
+use Rattle.vectors.proofs.query.are_fields.Tie as tie
+
+abbrev Inv-loop : tie.InvT-loop
+Inv-loop us i₀ i =
+    i ≤ length us
+
+abbrev μ-loop : tie.MeasureT-loop
+μ-loop us i₀ i = length us - i
+
+loop-holds : tie.Need-loop-holds Inv-loop μ-loop
+loop-holds c = search needs
+
+at-requires : tie.Need-at-requires Inv-loop μ-loop
+at-requires c κs = search needs
+
+is-field-requires : tie.Need-is-field-requires Inv-loop μ-loop
+is-field-requires c κs = search needs
+
+returns : tie.Need-returns Inv-loop μ-loop
+returns c = search needs
+
+add-i : tie.Need-add-i Inv-loop μ-loop
+add-i c = search needs
+
+loop-less : tie.Need-loop-less Inv-loop μ-loop
+loop-less c = search needs
+
+loop-again : tie.Need-loop-again Inv-loop μ-loop
+loop-again c = search needs
+
+returns-2 : tie.Need-returns-2 Inv-loop μ-loop
+returns-2 c = search needs
+
+pub are-fields-spec : {M : Type 1} → statement M
+are-fields-spec =
+    tie.close
+    (tie.spec
+    Inv-loop
+    μ-loop
+    loop-holds
+    at-requires
+    is-field-requires
+    returns
+    add-i
+    loop-less
+    loop-again
+    returns-2)
