@@ -10,9 +10,12 @@ use Rattle.corridors.proofs.Cases as Corridors
 use Rattle.graph.proofs.Cases as Graphs
 use Rattle.path_finding.proofs.Cases as Searches
 use Rattle.line_exists.proofs.Cases as Lines
+use Rattle.page_graph.proofs.Cases as Pages
+use Rattle.page_search.proofs.Cases as PageSearches
+use Rattle.net.proofs.Cases as InARow
 use Rattle.starred.specs.Starred.{Starred}
 
 pub table : Starred
 unfolding up any stops box-stops blocked padded edges
 table =
-    record { reaching-90 = refl; one-step-less = refl; run-700 = refl; run-800 = refl; tracks = Tracks.cases; nets = Nets.cases; anchors = Corridors.two-boxes-are; graphs = Graphs.cases; searches = Searches.cases; lines = Lines.cases }
+    record { reaching-90 = refl; one-step-less = refl; run-700 = refl; run-800 = refl; tracks = Tracks.cases; nets = Nets.cases; anchors = Corridors.two-boxes-are; graphs = Graphs.cases; searches = Searches.cases; lines = Lines.cases; pages = Pages.cases; page-searches = PageSearches.cases; in-a-row = InARow.cases }

@@ -15,6 +15,9 @@ use Rattle.corridors.specs.Cases as Corridors
 use Rattle.graph.specs.Cases as Graphs
 use Rattle.path_finding.specs.Cases as Searches
 use Rattle.line_exists.specs.Cases as Lines
+use Rattle.page_graph.specs.Cases as Pages
+use Rattle.page_search.specs.Cases as PageSearches
+use Rattle.net.specs.Cases as InARow
 
 -- a number of units, as a coordinate
 abbrev pub at-unit : ℕ → ℕ
@@ -47,3 +50,8 @@ pub record Starred : Type 0 where
   pub searches : Searches.Cases
   -- one box with three ports: first to third port is 11
   pub lines : Lines.Cases
+  -- the same cases of graphs and searches, from a page's records
+  pub pages : Pages.Cases
+  pub page-searches : PageSearches.Cases
+  -- endpoints (0,0), (20,0), (10,0), no boxes: 14
+  pub in-a-row : InARow.Cases
