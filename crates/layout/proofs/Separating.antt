@@ -1,23 +1,19 @@
 -- Separation of the first n vertices of a page: what it asks, and what it leaves in the whole columns.
 use mathlib.Core.Path.{_≡_, refl, sym, ap, _∙_, subst}
-use mathlib.Core.List.{List, [], _∷_, _++_}
-use Prim.Native.Nat.{ℕ, zero, suc, _*_, _<_, _≤_}
+use mathlib.Core.List.{List, _++_}
+use Prim.Native.Nat.{ℕ, _*_, _≤_}
 use native.Mathlib.Omega.{arith}
 use lib.IntN.{ℤ}
 use lib.ListN.{length, getD, take, drop}
 use lib.Seq.{length-take-le, getD-take}
-use Rattle.fixed.specs.Up.{up, ups}
+use Rattle.fixed.specs.Up.{ups}
 use Rattle.fixed.proofs.Lists.{ups-take, ups-drop}
+use Rattle.page_graph.proofs.Parts.{ups-append}
 use Rattle.vertex.specs.Pages.{VERTICES, Joined, Within}
 use Rattle.wire.specs.Wires.{vertices}
 use Rattle.fixup.specs.Moves.{Places, places, LOWEST, HIGHEST}
 use Rattle.fixup.specs.Separation.{separateWires}
 use Rattle.layout.specs.Separated.{apart, separated, Separable}
-
-pub ups-append : (l m : List ℤ) → ups (l ++ m) ≡ ups l ++ ups m
-unfolding ups
-ups-append [] m = refl
-ups-append (z ∷ l) m = ap (λ (t : List ℕ). up z ∷ t) (ups-append l m)
 
 within-take : (lo hi n : ℕ) (l : List ℤ) → Within lo hi n (ups l) → Within lo hi n (ups (take n l))
 within-take lo hi n l w =
