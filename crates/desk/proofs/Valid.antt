@@ -1,23 +1,37 @@
--- Validity of any words: the turns of the scans over a list's rows and over the desk's blocks.
+-- Validity of any words: a row by the table of stamps, and the turns of the scans over a list's rows and over the desk's blocks.
 use mathlib.Core.Path.{_≡_, refl, sym, ap, _∙_}
-use mathlib.Core.List.{List, _∷_, map}
+use mathlib.Core.List.{List, [], _∷_, map}
 use mathlib.Core.Bool.{Bool, true, false, not, _&&_}
-use Prim.Native.Nat.{ℕ, _+_, _-_, _*_, _≤_, _<_}
+use Prim.Native.Nat.{ℕ, zero, suc, _+_, _-_, _*_, _≤_, _<_}
 use native.Mathlib.Numerals.{add-one}
 use native.Mathlib.Omega.{arith}
-use lib.ListN.{length, getD, take, drop, length-drop, length-map}
+use lib.ListN.{length, getD, take, drop, set, length-drop, length-map, drop-of-length-le}
 use lib.Seq.{drop-drop, length-take-le}
-use lib.Dec.{leb}
+use lib.Dec.{leb, eqb}
 use borrow.Author.Tests.{le-leb, lt-leb, leb-true, not-true, not-false}
 use Rattle.fixed.proofs.Bools.{and-left, and-right}
-use Rattle.rows.specs.Rows.{rows, records, key, keys, count, isIn, scan}
+use Rattle.rows.specs.Rows.{rows, records, key, ids, keys, count, scan}
 use Rattle.rows.proofs.Rows
-use Rattle.desk.specs.Sizes.{COPIES, BLOCK, NEXT}
-use Rattle.desk.specs.Book.{Record, Lists, width, most, okRecord, own, belongs, okOwners, okMembers, okLists, okCopy, valid}
+use Rattle.desk.specs.Sizes.{IDS, COPIES, BLOCK, NEXT}
+use Rattle.desk.specs.Book.{Record, Lists, width, most, field, okId, okRecord, own, belongs, okOwners, okMembers, okLists, okCopy, valid}
 use Rattle.desk.specs.Desk.{start, size, area, listOf, listsOf, block, bookOf}
+use Rattle.desk.specs.Stamps.{TABLE, Fresh, Stamped}
 use Rattle.desk.specs.declared.Kind.{Kind}
 use Rattle.desk.proofs.Blocks
 use Rattle.desk.proofs.Decode.{book-rows}
+use Rattle.desk.proofs.Stamps
+
+-- ---- an id in range has a place in the table
+in-table : (v : ℕ) → okId v ≡ true → v < TABLE
+unfolding okId
+in-table v e = omega (arith, leb-true v IDS (and-right (leb 1 v) (leb v IDS) e))
+
+ok-key : (k : Kind) (r : Record) → okRecord k r ≡ true → key r < TABLE
+unfolding okRecord key
+ok-key Kind.Box r e = in-table (field 0 r) (and-left _ _ (and-left _ _ (and-right (eqb (length r) (width Kind.Box)) _ e)))
+ok-key Kind.Port r e = in-table (field 0 r) (and-left _ _ (and-left _ _ (and-right (eqb (length r) (width Kind.Port)) _ e)))
+ok-key Kind.Net r e = in-table (field 0 r) (and-right (eqb (length r) (width Kind.Net)) _ e)
+ok-key Kind.End r e = in-table (field 0 r) (and-left _ _ (and-left _ _ (and-right (eqb (length r) (width Kind.End)) _ e)))
 
 -- ---- a row: w is its width as the code has it, m the length of the part that was lent
 module _ (k : Kind) (xs : List ℕ) (w i m : ℕ) (ew : w ≡ width k) (em : m ≡ 1 + i * w + w - (1 + i * w)) where
@@ -33,22 +47,83 @@ module _ (k : Kind) (xs : List ℕ) (w i m : ℕ) (ew : w ≡ width k) (em : m �
   row-key : key row ≡ getD xs (1 + i * w) 0
   row-key = Rows.key-at (width k) 0 xs i (Blocks.wide-enough k) ∙ ap (λ (t : ℕ). getD xs (1 + i * t) 0) (sym ew)
 
-  module _ (g s : Bool) (eg : g ≡ okRecord k (take m (drop (1 + i * w) xs))) where
-    pub own-fits : (n : ℕ) → s ≡ isIn (getD xs (1 + i * w) 0) (drop (i + 1) (keys w n xs))
-        → g && not s ≡ own k row (drop (i + 1) (records (width k) n xs))
+  module _ (g : Bool) (eg : g ≡ okRecord k (take m (drop (1 + i * w) xs))) where
+    row-ok : g ≡ okRecord k row
+    row-ok = eg ∙ ap (okRecord k) row-is
+
+    pub own-bad : not g ≡ true → (rs : List Record) → false ≡ own k row rs
     unfolding own
-    own-fits n es =
-        rw (row-key, Rows.ids-from (width k) n xs (i + 1), ← ew, ← es)
-        (ap (λ (b : Bool). b && not s) (eg ∙ ap (okRecord k) (row-is ∙ ap (λ (t : ℕ). take t (drop (1 + i * t) xs)) (sym ew))))
+    own-bad e rs = rw (← row-ok, not-true g e)
 
-    pub member-fits : (os : List ℕ) (v n : ℕ) → s ≡ isIn (getD xs (1 + i * w) 0) (drop 0 (keys v n os))
-        → (rs : List Record) → g && s ≡ belongs k (records v n os) row rs
+    pub member-bad : not g ≡ true → (os rs : List Record) → false ≡ belongs k os row rs
     unfolding belongs
-    member-fits os v n es rs =
-        rw (row-key, Rows.ids-are v n os, ← es)
-        (ap (λ (b : Bool). b && s) (eg ∙ ap (okRecord k) row-is))
+    member-bad e os rs = rw (← row-ok, not-true g e)
 
--- ---- the turns of a scan over the rows of a list: t is the test, b what it gave at row i
+    module _ (e : not g ≡ false) where
+      pub id-in : getD xs (1 + i * w) 0 < TABLE
+      id-in = rw (row-key) at (ok-key k row (sym row-ok ∙ not-false g e))
+
+      pub own-fits : (n s : ℕ) (t : List ℕ) → Stamped s (drop (i + 1) (keys (width k) n xs)) t → (r : Bool) → r ≡ not (eqb (getD t (getD xs (1 + i * w) 0) 0) s)
+          → r ≡ own k row (drop (i + 1) (records (width k) n xs))
+      unfolding own
+      own-fits n s t st r er =
+          er ∙ ap not (st .has (getD xs (1 + i * w) 0)) ∙ rw (← row-ok, not-false g e, row-key, Rows.ids-from (width k) n xs (i + 1))
+
+      pub own-stamped : (n s : ℕ) (t u : List ℕ) → i < n → Stamped s (drop (i + 1) (keys (width k) n xs)) t → u ≡ set t (getD xs (1 + i * w) 0) s
+          → Stamped s (drop i (keys (width k) n xs)) u
+      own-stamped n s t u h st eu =
+          let split : drop i (keys (width k) n xs) ≡ getD xs (1 + i * w) 0 ∷ drop (i + 1) (keys (width k) n xs) =
+          Rows.keys-split (width k) n xs i h (Blocks.wide-enough k) ∙ ap (λ (x : ℕ). getD xs (1 + i * x) 0 ∷ drop (i + 1) (keys (width k) n xs)) (sym ew) in
+          rw (eu, split) (Stamps.one s (getD xs (1 + i * w) 0) (drop (i + 1) (keys (width k) n xs)) t id-in st)
+
+      pub member-fits : (s v : ℕ) (t : List ℕ) → v ≡ getD xs (1 + i * w) 0 → (os rs : List Record) → Stamped s (ids os) t
+          → eqb (getD t v 0) s ≡ belongs k os row rs
+      unfolding belongs
+      member-fits s v t ev os rs st = st .has v ∙ rw (← row-ok, not-false g e, row-key, ev)
+
+-- ---- the turns of a scan from the last row: t is the test, b what it gave at row i
+scan-back : (t : Record → List Record → Bool) (i : ℕ) (rs : List Record) → scan t (drop i rs) ≡ false → false ≡ scan t rs
+unfolding scan
+scan-back t zero rs e = sym e
+scan-back t (suc i) [] e = sym e
+scan-back t (suc i) (r ∷ rs) e = rw (← scan-back t i rs e) (sym (and-false (t r rs)))
+  where
+    and-false : (b : Bool) → b && false ≡ false
+    and-false true = refl
+    and-false false = refl
+
+pub rows-unstamped : (w n : ℕ) (xs : List ℕ) (s : ℕ) (t : List ℕ) → Fresh s t → Stamped s (drop n (keys w n xs)) t
+rows-unstamped w n xs s t f = Stamps.of-none s n (keys w n xs) t (omega (arith, Rows.length-keys w n xs)) f
+
+module _ (t : Record → List Record → Bool) (w n : ℕ) (xs : List ℕ) where
+  pub rows-none : scan t (drop n (records w n xs)) ≡ true
+  unfolding scan
+  rows-none =
+      let h : length (records w n xs) ≤ n = omega (arith, Rows.length-records w n xs) in
+      ap (scan t) (drop-of-length-le (records w n xs) h)
+
+  pub back-done : (i : ℕ) → i ≤ 0 → scan t (drop i (records w n xs)) ≡ true → true ≡ scan t (records w n xs)
+  back-done i h e = let z : i ≡ 0 = omega arith in sym (rw z at e)
+
+  module _ (i j : ℕ) (h : i < n) (ej : j ≡ i + 1) (later : scan t (drop j (records w n xs)) ≡ true) (b : Bool)
+      (is : b ≡ t (take w (drop (1 + i * w) xs)) (drop (i + 1) (records w n xs))) where
+    from : scan t (drop i (records w n xs)) ≡ b
+    unfolding scan
+    from =
+        ap (scan t) (Rows.record-split w n xs i h)
+        ∙ rw (← is, ← ej, later) (and-true b)
+      where
+        and-true : (b : Bool) → b && true ≡ b
+        and-true true = refl
+        and-true false = refl
+
+    pub back-fail : not b ≡ true → false ≡ scan t (records w n xs)
+    back-fail e = scan-back t i (records w n xs) (from ∙ not-true b e)
+
+    pub back-pass : not b ≡ false → scan t (drop i (records w n xs)) ≡ true
+    back-pass e = from ∙ not-false b e
+
+-- ---- the turns of a scan from the first row: t is the test, b what it gave at row i
 module _ (t : Record → List Record → Bool) (w n : ℕ) (xs : List ℕ) (i : ℕ)
     (so-far : scan t (records w n xs) ≡ scan t (drop i (records w n xs))) where
   module _ (b : Bool) (h : i < n) (is : b ≡ t (take w (drop (1 + i * w) xs)) (drop (i + 1) (records w n xs))) where
@@ -64,9 +139,6 @@ module _ (t : Record → List Record → Bool) (w n : ℕ) (xs : List ℕ) (i : 
 pub in-row : (k : Kind) (w i n l : ℕ) → w ≡ width k → i < n → 1 + n * width k ≤ l → (1 + i * w + w ≤ l) × (0 < w)
 in-row k w i n l e h m = rw e (omega (arith, Rows.row-in (width k) i n h), Blocks.wide-enough k)
 
-pub all-rows : (k : Kind) (w n l : ℕ) → w ≡ width k → 1 + n * width k ≤ l → 1 + n * w ≤ l
-all-rows k w n l e m = rw e m
-
 -- ---- a list of a block: n is its count, m the limit, xs its area as it was lent
 module _ (k : Kind) (blk : List ℕ) (long : length blk ≡ BLOCK) (n m : ℕ) (en : n ≡ count (area k blk)) (em : m ≡ most k) where
   pub list-many : (t : Record → List Record → Bool) → m < n → false ≡ leb (length (listOf k blk)) (most k) && scan t (listOf k blk)
@@ -76,6 +148,10 @@ module _ (k : Kind) (blk : List ℕ) (long : length blk ≡ BLOCK) (n m : ℕ) (
     pub list-fits : 1 + n * width k ≤ length (take j (drop a blk))
     list-fits = rw (Blocks.lent k blk long a s j ea es ej, Blocks.area-long k blk long) (Blocks.rows-in k n (omega arith))
 
+    pub list-ids : keys (width k) n (take j (drop a blk)) ≡ ids (listOf k blk)
+    unfolding listOf
+    list-ids = rw (Blocks.lent k blk long a s j ea es ej, en) (sym (Rows.ids-are (width k) (count (area k blk)) (area k blk)))
+
     pub list-some : (t : Record → List Record → Bool) (b : Bool) → b ≡ scan t (records (width k) n (take j (drop a blk)))
         → b ≡ leb (length (listOf k blk)) (most k) && scan t (listOf k blk)
     unfolding listOf
@@ -83,37 +159,33 @@ module _ (k : Kind) (blk : List ℕ) (long : length blk ≡ BLOCK) (n m : ℕ) (
         rw (Rows.length-records (width k) (count (area k blk)) (area k blk), ← en, ← em, le-leb n m h)
         (e ∙ ap (λ (xs : List ℕ). scan t (records (width k) n xs)) (Blocks.lent k blk long a s j ea es ej))
 
--- the list of a box or net that a member is looked up in
-module _ (k : Kind) (blk : List ℕ) (long : length blk ≡ BLOCK) (few : count (area k blk) ≤ most k) (n v a s j : ℕ) (en : n ≡ count (area k blk))
-    (ev : v ≡ width k) (ea : a ≡ start k) (es : s ≡ size k) (ej : j ≡ a + s - a) where
-  pub owner-fits : (0 < v) × (1 + n * v ≤ length (take j (drop a blk)))
-  owner-fits = rw (ev) (Blocks.wide-enough k, list-fits k blk long n (most k) en refl a s j ea es ej (omega arith))
+-- ---- a block: the boxes with the ports, then the nets with the ends
+pub pair-bad : (b o m : Bool) → b ≡ o → not b ≡ true → false ≡ o && m
+pair-bad b o m e h = rw (← e, not-true b h)
 
-  pub owner-list : records v n (take j (drop a blk)) ≡ listOf k blk
-  unfolding listOf
-  owner-list = rw (Blocks.lent k blk long a s j ea es ej, ev, en)
+pub pair-rest : (b o m r : Bool) → b ≡ o → not b ≡ false → r ≡ m → r ≡ o && m
+pair-rest b o m r e h f = rw (← e, not-false b h) f
 
--- ---- a block: refused for a list of boxes or nets, else by its lists of ports and ends
-module _ (blk : List ℕ) (b : Bool) (eb : b ≡ okOwners Kind.Box (listOf Kind.Box blk)) where
-  pub block-boxes : not b ≡ true → false ≡ okLists (listsOf blk)
+across : (a b c d : Bool) → (a && c) && (b && d) ≡ (a && b) && (c && d)
+across false b c d = refl
+across true true c d = refl
+across true false true d = refl
+across true false false d = refl
+
+module _ (blk : List ℕ) (p : Bool) (ep : p ≡ okOwners Kind.Box (listOf Kind.Box blk) && okMembers Kind.Port (listOf Kind.Box blk) (listOf Kind.Port blk)) where
+  lists-are : okLists (listsOf blk) ≡ p && (okOwners Kind.Net (listOf Kind.Net blk) && okMembers Kind.End (listOf Kind.Net blk) (listOf Kind.End blk))
   unfolding okLists listsOf
-  block-boxes h = rw (← eb, not-true b h)
+  lists-are =
+      rw ep
+      (across (okOwners Kind.Box (listOf Kind.Box blk)) (okMembers Kind.Port (listOf Kind.Box blk) (listOf Kind.Port blk)) (okOwners Kind.Net (listOf Kind.Net blk))
+      (okMembers Kind.End (listOf Kind.Net blk) (listOf Kind.End blk)))
 
-  module _ (d : Bool) (ed : d ≡ okOwners Kind.Net (listOf Kind.Net blk)) (h : not b ≡ false) where
-    pub block-nets : not d ≡ true → false ≡ okLists (listsOf blk)
-    unfolding okLists listsOf
-    block-nets g = rw (← eb, ← ed, not-false b h, not-true d g)
+  pub block-bad : not p ≡ true → false ≡ okLists (listsOf blk)
+  block-bad h = rw (lists-are, not-true p h)
 
-    pub block-rest : (p q : Bool) → not d ≡ false → p ≡ okMembers Kind.Port (listOf Kind.Box blk) (listOf Kind.Port blk)
-        → q ≡ okMembers Kind.End (listOf Kind.Net blk) (listOf Kind.End blk) → p && q ≡ okLists (listsOf blk)
-    unfolding okLists listsOf
-    block-rest p q g ep eq = rw (← eb, ← ed, not-false b h, not-false d g, ep, eq)
-
-pub owners-few : (k : Kind) (blk : List ℕ) (b : Bool) → b ≡ okOwners k (listOf k blk) → not b ≡ false → count (area k blk) ≤ most k
-unfolding okOwners
-owners-few k blk b e h =
-    let t : leb (length (listOf k blk)) (most k) ≡ true = and-left _ (scan (own k) (listOf k blk)) (sym e ∙ not-false b h) in
-    omega (arith, Blocks.length-list k blk, leb-true (length (listOf k blk)) (most k) t)
+  pub block-rest : (q : Bool) → not p ≡ false → q ≡ okOwners Kind.Net (listOf Kind.Net blk) && okMembers Kind.End (listOf Kind.Net blk) (listOf Kind.End blk)
+      → q ≡ okLists (listsOf blk)
+  block-rest q h e = rw (lists-are, not-false p h) e
 
 -- ---- the desk: refused for its depth, else by the scan of the lists now and the copies
 unfoldable pub copies : ℕ → List ℕ → List Lists

@@ -2,3 +2,4 @@ pub mod Sizes
 pub mod Book
 pub mod Desk
 pub mod Calls
+pub mod Stamps

@@ -1,18 +1,23 @@
 // A desk: boxes, ports, nets and ends in a lent slice of words, with a pile of up to 32 copies for undo.
 ghost use mathlib.Core.Path.{_≡_};
-ghost use mathlib.Core.Bool.{Bool, true, _&&_};
+ghost use mathlib.Core.Bool.{Bool, true, not, _&&_};
 ghost use mathlib.Core.List.{List};
 ghost use Prim.Native.Nat.{ℕ, _+_, _*_, _≤_, _<_};
-ghost use lib.ListN.{length, getD, take, drop};
-ghost use Rattle.rows.specs.Rows.{isIn, ids, key, count, scan, place, records as records-of};
-ghost use Rattle.desk.specs.Sizes.{BOX, PORT, NET, END, BLOCK, DESK};
+ghost use lib.ListN.{length, getD, take, drop, set};
+ghost use lib.Dec.{eqb};
+ghost use Rattle.rows.specs.Rows.{isIn, ids, key, keys, count, scan, place, records as records-of};
+ghost use Rattle.desk.specs.Sizes.{COPIES, BOX, PORT, NET, END, BLOCK, DESK};
 ghost use Rattle.desk.specs.Book.{okId, okPlace, okFields, okRecord, list, width as width-of, most as most-of, addNumber, newNumber, knownNumber, roomNumber, takeNumber, own, belongs, okOwners, okMembers, okLists, valid, idNumber, placeNumber, retireNumber, spot as spot-of, okName, answer};
 ghost use Rattle.desk.specs.Desk.{start, size as size-of, area, listOf, listsOf, Counted, withRow, block, Ready, taken, emptied, at0, withoutRow, laid, undone, bookOf, sized};
+ghost use Rattle.desk.specs.Stamps.{TABLE, Fresh, Stamped};
 ghost use Rattle.desk.specs.Calls.{Call, number, words, boxRecord, pointRecord, netRecord};
 
 pub const IDS: u32 = 65535;
 
 pub const COPIES: u32 = 32;
+
+// A stamp for each id and 0.
+const TABLE: usize = 65536;
 
 pub const BOX: usize = 5;
 
@@ -251,42 +256,70 @@ pub fn empty(desk: &mut [u32])
     desk[1 + ENDS_AT] = 0;
 }
 
-// Whether row i keeps its ranges and no later row has its id.
-fn own_fits(part: &[u32], kind: Kind, n: usize, i: usize) -> bool
+// Gives an id the stamp: whether it did not have it.
+fn stamp_id(table: &mut [u8], stamp: u8, id: u32) -> bool
+    requires { ⌜ (id < TABLE) × (length (now table) ≡ TABLE) ⌝ }
+    ensures { λ r. ⌜ r ≡ not (eqb (getD (now (table .entry)) id 0) stamp) ⌝ }
+    ensures { λ _. ⌜ now (table .exit) ≡ set (now (table .entry)) id stamp ⌝ }
+{
+    let at = rows::wide(id);
+    let before = table[at];
+    table[at] = stamp;
+    before != stamp
+}
+
+// Whether row i keeps its ranges and no later row has its id: the ids behind it have the stamp, and then its own too.
+fn own_fits(part: &[u32], kind: Kind, n: usize, i: usize, table: &mut [u8], stamp: u8) -> bool
     requires { ⌜ (i < n) × (1 + n * width-of kind ≤ length (now part)) ⌝ }
+    requires { ⌜ Stamped stamp (drop (i + 1) (keys (width-of kind) n (now part))) (now table) ⌝ }
     ensures { λ r. ⌜ r ≡ own kind (take (width-of kind) (drop (1 + i * width-of kind) (now (part .entry)))) (drop (i + 1) (records-of (width-of kind) n (now (part .entry)))) ⌝ }
+    ensures { λ r. ⌜ (r ≡ true → Stamped stamp (drop i (keys (width-of kind) n (now (part .entry)))) (now (table .exit))) ⌝ }
 {
     let w = width(kind);
     let a = 1 + i * w;
-    ok_record(kind, &part[a..a + w]) & !rows::is_in(part, w, i + 1, n, part[a])
+    if !ok_record(kind, &part[a..a + w]) {
+        return false;
+    }
+    stamp_id(table, stamp, part[a])
 }
 
-// Whether row i keeps its ranges and what it belongs to is there.
-fn member_fits(
-    part: &[u32],
-    kind: Kind,
-    n: usize,
-    i: usize,
-    owners: &[u32],
-    v: usize,
-    m: usize,
-) -> bool
-    requires { ⌜ (i < n) × (1 + n * width-of kind ≤ length (now part)) ⌝ }
-    requires { ⌜ (0 < v) × (1 + m * v ≤ length (now owners)) ⌝ }
-    ensures { λ r. ⌜ ((rs : List (List ℕ)) → r ≡ belongs kind (records-of v m (now (owners .entry))) (take (width-of kind) (drop (1 + i * width-of kind) (now (part .entry)))) rs) ⌝ }
+// Whether row i keeps its ranges and what it belongs to is there: has the stamp.
+fn member_fits(part: &[u32], kind: Kind, n: usize, i: usize, table: &[u8], stamp: u8) -> bool
+    requires { ⌜ (i < n) × (1 + n * width-of kind ≤ length (now part)) × (length (now table) ≡ TABLE) ⌝ }
+    ensures { λ r. ⌜ ((os rs : List (List ℕ)) → Stamped stamp (ids os) (now (table .entry)) → r ≡ belongs kind os (take (width-of kind) (drop (1 + i * width-of kind) (now (part .entry)))) rs) ⌝ }
 {
     let w = width(kind);
     let a = 1 + i * w;
-    ok_record(kind, &part[a..a + w]) & rows::is_in(owners, v, 0, m, part[a])
+    if !ok_record(kind, &part[a..a + w]) {
+        return false;
+    }
+    table[rows::wide(part[a])] == stamp
 }
 
-fn all_own(part: &[u32], kind: Kind, n: usize) -> bool
+// Whether the rows fit, from the last to the first. Their ids have the stamp then.
+fn all_own(part: &[u32], kind: Kind, n: usize, table: &mut [u8], stamp: u8) -> bool
     requires { ⌜ 1 + n * width-of kind ≤ length (now part) ⌝ }
+    requires { ⌜ Fresh stamp (now table) ⌝ }
     ensures { λ r. ⌜ r ≡ scan (own kind) (records-of (width-of kind) n (now (part .entry))) ⌝ }
+    ensures { λ r. ⌜ (r ≡ true → Stamped stamp (keys (width-of kind) n (now (part .entry))) (now (table .exit))) ⌝ }
+{
+    let mut i = n;
+    while 0 < i {
+        i -= 1;
+        if !own_fits(part, kind, n, i, table, stamp) {
+            return false;
+        }
+    }
+    true
+}
+
+fn all_belong(part: &[u32], kind: Kind, n: usize, table: &[u8], stamp: u8) -> bool
+    requires { ⌜ (1 + n * width-of kind ≤ length (now part)) × (length (now table) ≡ TABLE) ⌝ }
+    ensures { λ r. ⌜ ((os : List (List ℕ)) → Stamped stamp (ids os) (now (table .entry)) → r ≡ scan (belongs kind os) (records-of (width-of kind) n (now (part .entry)))) ⌝ }
 {
     let mut i = 0;
     while i < n {
-        if !own_fits(part, kind, n, i) {
+        if !member_fits(part, kind, n, i, table, stamp) {
             return false;
         }
         i += 1;
@@ -294,66 +327,58 @@ fn all_own(part: &[u32], kind: Kind, n: usize) -> bool
     true
 }
 
-fn all_belong(part: &[u32], kind: Kind, n: usize, owners: &[u32], v: usize, m: usize) -> bool
-    requires { ⌜ 1 + n * width-of kind ≤ length (now part) ⌝ }
-    requires { ⌜ (0 < v) × (1 + m * v ≤ length (now owners)) ⌝ }
-    ensures { λ r. ⌜ r ≡ scan (belongs kind (records-of v m (now (owners .entry)))) (records-of (width-of kind) n (now (part .entry))) ⌝ }
-{
-    let mut i = 0;
-    while i < n {
-        if !member_fits(part, kind, n, i, owners, v, m) {
-            return false;
-        }
-        i += 1;
-    }
-    true
-}
-
-fn ok_owners(blk: &[u32], kind: Kind) -> bool
+// Whether the boxes or nets fit. Their ids have the stamp then.
+fn ok_owners(blk: &[u32], kind: Kind, table: &mut [u8], stamp: u8) -> bool
     requires { ⌜ length (now blk) ≡ BLOCK ⌝ }
+    requires { ⌜ Fresh stamp (now table) ⌝ }
     ensures { λ r. ⌜ r ≡ okOwners kind (listOf kind (now (blk .entry))) ⌝ }
+    ensures { λ r. ⌜ (r ≡ true → Stamped stamp (ids (listOf kind (now (blk .entry)))) (now (table .exit))) ⌝ }
 {
     let n = records(blk, kind);
     if most(kind) < n {
         return false;
     }
     let a = area_at(kind);
-    all_own(&blk[a..a + size(kind)], kind, n)
+    all_own(&blk[a..a + size(kind)], kind, n, table, stamp)
 }
 
-fn ok_members(blk: &[u32], owner: Kind, kind: Kind) -> bool
-    requires { ⌜ (length (now blk) ≡ BLOCK) × (count (area owner (now blk)) ≤ most-of owner) ⌝ }
-    ensures { λ r. ⌜ r ≡ okMembers kind (listOf owner (now (blk .entry))) (listOf kind (now (blk .entry))) ⌝ }
+// Whether the ports or ends fit, where the ids of what they can belong to have the stamp.
+fn ok_members(blk: &[u32], kind: Kind, table: &[u8], stamp: u8) -> bool
+    requires { ⌜ (length (now blk) ≡ BLOCK) × (length (now table) ≡ TABLE) ⌝ }
+    ensures { λ r. ⌜ ((os : List (List ℕ)) → Stamped stamp (ids os) (now (table .entry)) → r ≡ okMembers kind os (listOf kind (now (blk .entry)))) ⌝ }
 {
     let n = records(blk, kind);
     if most(kind) < n {
         return false;
     }
-    let m = records(blk, owner);
     let a = area_at(kind);
-    let b = area_at(owner);
-    all_belong(
-        &blk[a..a + size(kind)],
-        kind,
-        n,
-        &blk[b..b + size(owner)],
-        width(owner),
-        m,
-    )
+    all_belong(&blk[a..a + size(kind)], kind, n, table, stamp)
 }
 
-// Whether a block is a valid set of lists.
-fn ok_block(blk: &[u32]) -> bool
+// Whether the boxes and ports, or the nets and ends, fit.
+fn ok_pair(blk: &[u32], owner: Kind, kind: Kind, table: &mut [u8], stamp: u8) -> bool
     requires { ⌜ length (now blk) ≡ BLOCK ⌝ }
-    ensures { λ r. ⌜ r ≡ okLists (listsOf (now (blk .entry))) ⌝ }
+    requires { ⌜ Fresh stamp (now table) ⌝ }
+    ensures { λ r. ⌜ r ≡ okOwners owner (listOf owner (now (blk .entry))) && okMembers kind (listOf owner (now (blk .entry))) (listOf kind (now (blk .entry))) ⌝ }
+    ensures { λ r. ⌜ (r ≡ true → Fresh (stamp + 1) (now (table .exit))) ⌝ }
 {
-    if !ok_owners(blk, Kind::Box) {
+    if !ok_owners(blk, owner, table, stamp) {
         return false;
     }
-    if !ok_owners(blk, Kind::Net) {
+    ok_members(blk, kind, table, stamp)
+}
+
+// Whether a block is a valid set of lists. Boxes get the stamp, and nets the next one.
+fn ok_block(blk: &[u32], table: &mut [u8], stamp: u8) -> bool
+    requires { ⌜ (length (now blk) ≡ BLOCK) × (stamp < 255) ⌝ }
+    requires { ⌜ Fresh stamp (now table) ⌝ }
+    ensures { λ r. ⌜ r ≡ okLists (listsOf (now (blk .entry))) ⌝ }
+    ensures { λ r. ⌜ (r ≡ true → Fresh (stamp + 2) (now (table .exit))) ⌝ }
+{
+    if !ok_pair(blk, Kind::Box, Kind::Port, table, stamp) {
         return false;
     }
-    ok_members(blk, Kind::Box, Kind::Port) & ok_members(blk, Kind::Net, Kind::End)
+    ok_pair(blk, Kind::Net, Kind::End, table, stamp + 1)
 }
 
 // Lays the block now on the pile.
@@ -463,7 +488,26 @@ fn ok_name(kind: Kind, name: u32) -> bool
     }
 }
 
-// Whether the words are a desk: every block from the lists now to the oldest copy is a valid set of lists.
+// Whether every block from the lists now to the oldest copy is a valid set of lists. Each block has two stamps of its own.
+fn ok_blocks(desk: &[u32], depth: usize, table: &mut [u8]) -> bool
+    requires { ⌜ (DESK ≤ length (now desk)) × (depth ≡ getD (now desk) 0 0) × (depth ≤ COPIES) ⌝ }
+    requires { ⌜ Fresh 1 (now table) ⌝ }
+    ensures { λ r. ⌜ r ≡ valid (bookOf (now (desk .entry))) ⌝ }
+{
+    let mut stamp: u8 = 1;
+    let mut k = 0;
+    while k < depth + 1 {
+        let a = 1 + k * BLOCK;
+        if !ok_block(&desk[a..a + BLOCK], table, stamp) {
+            return false;
+        }
+        stamp += 2;
+        k += 1;
+    }
+    true
+}
+
+// Whether the words are a desk. The table is made here.
 fn ok_desk(desk: &[u32]) -> bool
     requires { ⌜ DESK ≤ length (now desk) ⌝ }
     ensures { λ r. ⌜ r ≡ valid (bookOf (now (desk .entry))) ⌝ }
@@ -472,15 +516,8 @@ fn ok_desk(desk: &[u32]) -> bool
     if rows::wide(COPIES) < depth {
         return false;
     }
-    let mut k = 0;
-    while k < depth + 1 {
-        let a = 1 + k * BLOCK;
-        if !ok_block(&desk[a..a + BLOCK]) {
-            return false;
-        }
-        k += 1;
-    }
-    true
+    let mut table: [u8; TABLE] = [0; TABLE];
+    ok_blocks(desk, depth, &mut table)
 }
 
 // An addition.

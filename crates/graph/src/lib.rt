@@ -7,7 +7,7 @@ ghost use Rattle.nodes.specs.Lent.{graph, Roomy, Built};
 ghost use Rattle.sightline.specs.Lent.{Held};
 ghost use Rattle.scan.specs.Lent.{anchors as anchors-of, Anchored};
 ghost use Rattle.fixed.specs.Up.{BIAS, ups};
-ghost use Rattle.graph.specs.Zeros.{closed};
+ghost use Rattle.zeros.specs.Zeros.{closed};
 ghost use Rattle.graph.specs.Build.{boxes-of, whole, made, Made};
 
 // The graph of padded boxes and anchors, not pruned: how many nodes it has, or more than NODES where it would have more.
@@ -114,33 +114,6 @@ pub fn make(
     n
 }
 
-// Zero as a coordinate, counted from -2^31.
-const ZERO: u32 = 2147483648;
-
-// Zeros behind the first `from` coordinates.
-pub fn zero_steps(col: &mut [i32], from: usize)
-    requires { ⌜ from ≤ length (now col) ⌝ }
-    ensures { λ _. ⌜ ups (now (col .exit)) ≡ closed BIAS from (ups (now (col .entry))) ⌝ }
-{
-    let mut i = from;
-    while i < col.len() {
-        fixed::put(col, i, ZERO);
-        i += 1;
-    }
-}
-
-// Zeros behind the first `from` words.
-pub fn zero_words(col: &mut [u32], from: usize)
-    requires { ⌜ from ≤ length (now col) ⌝ }
-    ensures { λ _. ⌜ now (col .exit) ≡ closed 0 from (now (col .entry)) ⌝ }
-{
-    let mut i = from;
-    while i < col.len() {
-        col[i] = 0;
-        i += 1;
-    }
-}
-
 // Zeros behind the n nodes of a graph.
 pub fn close(xs: &mut [i32], ys: &mut [i32], links: &mut [u32], marks: &mut [u32], n: usize)
     requires { ⌜ Roomy (now xs) (now ys) (now links) (now marks) ⌝ }
@@ -150,8 +123,8 @@ pub fn close(xs: &mut [i32], ys: &mut [i32], links: &mut [u32], marks: &mut [u32
     ensures { λ _. ⌜ now (links .exit) ≡ closed 0 (n * 4) (now (links .entry)) ⌝ }
     ensures { λ _. ⌜ now (marks .exit) ≡ closed 0 n (now (marks .entry)) ⌝ }
 {
-    zero_steps(xs, n);
-    zero_steps(ys, n);
-    zero_words(links, n * 4);
-    zero_words(marks, n);
+    zeros::zero_steps(xs, n);
+    zeros::zero_steps(ys, n);
+    zeros::zero_words(links, n * 4);
+    zeros::zero_words(marks, n);
 }

@@ -1,17 +1,24 @@
 // The nodes and links of a graph, in lent lists: below the count they hold the graph.
 ghost use mathlib.Core.Path.{_≡_};
-ghost use Prim.Native.Nat.{_+_, _*_, _<_, _≤_};
+ghost use mathlib.Core.Bool.{false};
+ghost use Prim.Native.Nat.{ℕ, _+_, _*_, _<_, _≤_};
 ghost use lib.Bits.{bitOr};
 ghost use lib.ListN.{length, getD, set, take};
 ghost use mathlib.Core.List.{[], _∷_, _++_};
 ghost use Rattle.fixed.specs.Up.{ups};
 ghost use Rattle.nodes.specs.Graph.{NODES, LINKS, none, stands, seek, find, place, linked};
 ghost use Rattle.nodes.specs.Lent.{graph, Roomy, Met};
+ghost use Rattle.nodes.specs.Map.{BUCKETS, MAP, bucket, entered, Apart, Mapped, Keyed};
 
 pub const NODES: usize = 4096;
 
 // A count that says: no room.
 pub const CROWDED: usize = 4097;
+
+// The buckets of a map of places, and its entries: one for each bucket, and one for each node.
+const BUCKETS: usize = 4093;
+
+pub const MAP: usize = 8189;
 
 // No link.
 pub const NONE: u32 = 0xFFFF_FFFF;
@@ -21,10 +28,37 @@ fn stands(xs: &[i32], ys: &[i32], x: u32, y: u32, i: usize) -> bool
     requires { ⌜ (i < length (now xs)) × (i < length (now ys)) ⌝ }
     ensures { λ r. ⌜ r ≡ stands (ups (now (xs .entry))) (ups (now (ys .entry))) x y i ⌝ }
 {
-    if fixed::at(xs, i) == x {
-        return fixed::at(ys, i) == y;
+    (fixed::at(xs, i) == x) & (fixed::at(ys, i) == y)
+}
+
+// Whether one of the 32 nodes from `a` on stands at (x, y): all are asked, so that several are asked at once.
+fn any_of(xs: &[i32], ys: &[i32], x: u32, y: u32, a: usize) -> bool
+    requires { ⌜ (a + 32 ≤ length (now xs)) × (a + 32 ≤ length (now ys)) ⌝ }
+    ensures { λ r. ⌜ (r ≡ false → (k : ℕ) → a ≤ k → k < a + 32 → stands (ups (now (xs .entry))) (ups (now (ys .entry))) x y k ≡ false) ⌝ }
+{
+    let mut r = false;
+    let mut i: usize = 0;
+    while i < 32 {
+        r = stands(xs, ys, x, y, a + i) | r;
+        i += 1;
     }
-    false
+    r
+}
+
+// The first of n nodes that stands at (x, y), or n; none does before `a`.
+fn find_from(xs: &[i32], ys: &[i32], n: usize, x: u32, y: u32, a: usize) -> usize
+    requires { ⌜ (n ≤ length (now xs)) × (n ≤ length (now ys)) × (a ≤ n) ⌝ }
+    requires { ⌜ ((k : ℕ) → k < a → stands (ups (now xs)) (ups (now ys)) x y k ≡ false) ⌝ }
+    ensures { λ r. ⌜ r ≡ seek (ups (now (xs .entry))) (ups (now (ys .entry))) n x y ⌝ }
+{
+    let mut i = a;
+    while i < n {
+        if stands(xs, ys, x, y, i) {
+            return i;
+        }
+        i += 1;
+    }
+    n
 }
 
 // The first of n nodes that stands at (x, y), or n.
@@ -33,13 +67,78 @@ pub fn find_node(xs: &[i32], ys: &[i32], n: usize, x: u32, y: u32) -> usize
     ensures { λ r. ⌜ r ≡ seek (ups (now (xs .entry))) (ups (now (ys .entry))) n x y ⌝ }
 {
     let mut i = 0;
-    while i < n {
+    while 32 <= n - i {
+        if any_of(xs, ys, x, y, i) {
+            return find_from(xs, ys, n, x, y, i);
+        }
+        i += 32;
+    }
+    find_from(xs, ys, n, x, y, i)
+}
+
+// A node number as an index.
+fn wide(x: u32) -> usize
+    ensures { λ r. ⌜ r ≡ x ⌝ }
+{
+    x as usize
+}
+
+// The bucket of a place.
+fn bucket(x: u32, y: u32) -> usize
+    ensures { λ r. ⌜ (r ≡ bucket x y) × (r < BUCKETS) ⌝ }
+{
+    (wide(x) % BUCKETS + wide(y) % BUCKETS * 61) % BUCKETS
+}
+
+// The entry p of a map.
+fn entry(map: &[u32], p: usize) -> usize
+    requires { ⌜ p < length (now map) ⌝ }
+    ensures { λ r. ⌜ r ≡ getD (now (map .entry)) p 0 ⌝ }
+{
+    wide(map[p])
+}
+
+// The first of n nodes that stands at (x, y), or n, by the map of their places.
+pub fn look_up(map: &[u32], xs: &[i32], ys: &[i32], n: usize, x: u32, y: u32) -> usize
+    requires { ⌜ (n ≤ NODES) × (n ≤ length (now xs)) × (n ≤ length (now ys)) ⌝ }
+    requires { ⌜ Mapped (now map) (ups (now xs)) (ups (now ys)) n ⌝ }
+    ensures { λ r. ⌜ r ≡ seek (ups (now (xs .entry))) (ups (now (ys .entry))) n x y ⌝ }
+{
+    let mut v = entry(map, bucket(x, y));
+    while 0 < v {
+        let i = v - 1;
         if stands(xs, ys, x, y, i) {
             return i;
         }
-        i += 1;
+        v = entry(map, BUCKETS + i);
     }
     n
+}
+
+// Puts the node i, at (x, y), into the map.
+fn enter(map: &mut [u32], i: usize, x: u32, y: u32)
+    requires { ⌜ (i < NODES) × (MAP ≤ length (now map)) ⌝ }
+    ensures { λ _. ⌜ now (map .exit) ≡ entered (now (map .entry)) i x y ⌝ }
+{
+    let b = bucket(x, y);
+    map[BUCKETS + i] = map[b];
+    map[b] = i as u32 + 1;
+}
+
+// Puts n nodes at distinct places into a map of none.
+pub fn enter_all(map: &mut [u32], xs: &[i32], ys: &[i32], n: usize)
+    requires { ⌜ (n ≤ NODES) × (n ≤ length (now xs)) × (n ≤ length (now ys)) ⌝ }
+    requires { ⌜ Apart (ups (now xs)) (ups (now ys)) n ⌝ }
+    requires { ⌜ Mapped (now map) (ups (now xs)) (ups (now ys)) 0 ⌝ }
+    ensures { λ _. ⌜ Mapped (now (map .exit)) (ups (now (xs .entry))) (ups (now (ys .entry))) n ⌝ }
+{
+    let mut k: usize = 0;
+    while k < n {
+        let x = fixed::at(xs, k);
+        let y = fixed::at(ys, k);
+        enter(map, k, x, y);
+        k += 1;
+    }
 }
 
 // A node's index, and how many nodes there are; CROWDED if there is no room.
@@ -75,6 +174,7 @@ pub fn place(
     ys: &mut [i32],
     links: &mut [u32],
     marks: &mut [u32],
+    map: &mut [u32],
     n: usize,
     x: u32,
     y: u32,
@@ -82,9 +182,11 @@ pub fn place(
 ) -> Spot
     requires { ⌜ Roomy (now xs) (now ys) (now links) (now marks) ⌝ }
     requires { ⌜ n ≤ NODES ⌝ }
+    requires { ⌜ Keyed (now map) (now xs) (now ys) n ⌝ }
     ensures { λ r. ⌜ Met (r .index) (r .count) (find (graph n (now (xs .entry)) (now (ys .entry)) (now (links .entry)) (now (marks .entry))) x y) (graph (r .count) (now (xs .exit)) (now (ys .exit)) (now (links .exit)) (now (marks .exit))) (place (graph n (now (xs .entry)) (now (ys .entry)) (now (links .entry)) (now (marks .entry))) x y m) ⌝ }
+    ensures { λ r. ⌜ Keyed (now (map .exit)) (now (xs .exit)) (now (ys .exit)) (r .count) ⌝ }
 {
-    let i = find_node(xs, ys, n, x, y);
+    let i = look_up(map, xs, ys, n, x, y);
     if i < n {
         remark(marks, i, m);
         return Spot { index: i, count: n };
@@ -99,6 +201,7 @@ pub fn place(
     fixed::put(ys, n, y);
     unlink(links, n);
     marks[n] = m;
+    enter(map, n, x, y);
     Spot {
         index: i,
         count: n + 1,
@@ -113,13 +216,6 @@ pub fn link(links: &mut [u32], d: usize, i: usize, j: usize)
 {
     links[i * 4 + d] = j as u32;
     links[j * 4 + (d + 1 - 2 * (d % 2))] = i as u32;
-}
-
-// A node number as an index.
-fn wide(x: u32) -> usize
-    ensures { λ r. ⌜ r ≡ x ⌝ }
-{
-    x as usize
 }
 
 // The link of the node i in the direction d.

@@ -6,19 +6,29 @@ use mathlib.Core.Bool.{Bool, true, false, cond, _&&_}
 use native.Mathlib.Omega.{arith}
 use native.Mathlib.Decide.{ℕ-discrete}
 use native.Mathlib.Nat.{not-suc-le-zero}
+use lib.IntN.{ℤ}
 use lib.ListN.{length, take, length-take, drop, drop-of-length-le, length-drop}
 use lib.Dec.{ltb, eqb}
+use lib.Seq.{getD-take}
 use borrow.Author.Tests.{lt-ltb, le-ltb, eq-eqb, ne-eqb, ltb-true}
+use Rattle.fixed.specs.Up.{ups}
 use Rattle.fixed.proofs.Bools.{and-left, and-right}
 use Rattle.nodes.specs.Graph.{Graph, seek}
+use Rattle.nodes.specs.Lent.{graph}
+use Rattle.nodes.specs.Map.{Apart}
 use Rattle.nodes.proofs.Nodes.{seek-take}
-use Rattle.astar.specs.Reached.{Below}
+use Rattle.astar.specs.Reached.{Ready, Below}
 use Rattle.path_finding.specs.Line.{line, table}
 use Rattle.path_finding.specs.Places.{node-at, known, start-of, ends-of, ends-known, line-between, number, Answered}
 use Rattle.path_finding.proofs.Lines.{below-more}
 
 pub start-is : (n : ℕ) (xs ys : List ℕ) (x y r : ℕ) → r ≡ seek xs ys n x y → r ≡ seek (take n xs) (take n ys) n x y
 start-is n xs ys x y r e = e ∙ sym (seek-take xs ys n x y)
+
+-- the nodes of a graph that is ready stand at distinct places
+pub apart-lent : (n : ℕ) (nx ny : List ℤ) (nb mk : List ℕ) → Ready (graph n nx ny nb mk) → Apart (ups nx) (ups ny) n
+apart-lent n nx ny nb mk w i j li lj ex ey =
+    w .wf .good .apart i j li lj (rw (getD-take n (ups nx) i 0 li, getD-take n (ups nx) j 0 lj) ex) (rw (getD-take n (ups ny) i 0 li, getD-take n (ups ny) j 0 lj) ey)
 
 pub take-short : (k m : ℕ) (l : List ℕ) → k ≤ m → length (take k l) ≤ m
 take-short k m l h = omega (arith, length-take k l)

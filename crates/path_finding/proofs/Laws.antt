@@ -7,7 +7,7 @@ use native.Mathlib.Numerals.{add-one}
 use native.Mathlib.Omega.{arith}
 use lib.IntN.{ℤ}
 use lib.ListN.{length, getD, set, take, drop, length-set, replicate, length-replicate, getD-replicate}
-use lib.Seq.{getD-take, take-suc-set, take-all, getD-set-same, getD-set-other}
+use lib.Seq.{getD-take, take-suc-set, getD-set-same, getD-set-other}
 use lib.Dec.{ltb, eqb}
 use borrow.Author.Tests.{lt-ltb, le-ltb, eq-eqb, ne-eqb}
 use Rattle.fixed.specs.Up.{BIAS, ups}
@@ -32,15 +32,9 @@ module _ (f : ℕ → ℕ) (l : List ℕ) where
   unfolding table
   table-more i v e h ev = rw (add-one, take-suc-set l i v h, e, ev)
 
-  pub table-done : (i n : ℕ) → take i l ≡ table f i → length l ≤ i → i ≡ n → l ≡ table f n
-  table-done i n e h q = sym (take-all i l h) ∙ e ∙ ap (table f) q
-
 module _ (f : ℕ → ℕ) (l : List ℤ) where
   pub table-put : (l′ : List ℤ) (i v : ℕ) → take i (ups l) ≡ table f i → i < length l → ups l′ ≡ set (ups l) i v → v ≡ f i → take (i + 1) (ups l′) ≡ table f (i + 1)
   table-put l′ i v e h s ev = rw s (table-more f (ups l) i v e (omega (arith, length-ups l)) ev)
-
-  pub table-ups-done : (i n : ℕ) → take i (ups l) ≡ table f i → length l ≤ i → i ≡ n → ups l ≡ table f n
-  table-ups-done i n e h q = table-done f (ups l) i n e (omega (arith, length-ups l)) q
 
 -- ---- a link
 

@@ -6,11 +6,13 @@ use mathlib.Core.Bool.{Bool, true, false, cond, not, _&&_, _||_}
 use native.Mathlib.Omega.{arith}
 use native.Mathlib.Decide.{ℕ-discrete, decLt}
 use native.Mathlib.Nat.{le-of-suc-le-suc, not-suc-le-zero}
-use lib.ListN.{length, getD, take, drop, length-append, List·getD-append}
-use lib.Seq.{getD-append-seam, getD-at}
+use lib.ListN.{length, getD, take, drop, replicate, length-replicate, getD-replicate, length-append, List·getD-append}
+use lib.Seq.{getD-append-seam, getD-append-add, getD-at, ext-getD}
 use lib.Dec.{ltb, eqb}
 use borrow.Author.Tests.{eq-eqb, ne-eqb, eqb-true, eqb-false}
 use Rattle.fixed.proofs.Bools.{clash}
+use Rattle.axis.proofs.Small.{Place, before, beyond, place}
+use Rattle.zeros.specs.Zeros.{closed}
 use Rattle.nodes.specs.Graph.{Graph, none}
 use Rattle.astar.specs.declared.Found.{Found}
 use Rattle.astar.specs.declared.Found.the-variants.{Node, Nothing}
@@ -132,3 +134,22 @@ table-at f (suc n) k h = go (ℕ-discrete k n) (table-at f n k)
 
 pub table-self : (f : ℕ → ℕ) (l : List ℕ) (n : ℕ) → l ≡ table f n → l ≡ table f (length l)
 table-self f l n e = let h : n ≡ length l = sym (ap length e ∙ table-length f n) in e ∙ ap (table f) h
+
+filled : (f : ℕ → ℕ) (z d k : ℕ) → ((j : ℕ) → k ≤ j → j < k + d → f j ≡ z) → table f k ++ replicate d z ≡ table f (k + d)
+filled f z d k g = ext-getD 0 (table f k ++ replicate d z) (table f (k + d)) (both ∙ sym (table-length f (k + d))) (λ j lt. by j (omega (arith, both)) (place k j))
+  where
+    both : length (table f k ++ replicate d z) ≡ k + d
+    both = length-append (table f k) (replicate d z) ∙ omega (arith, table-length f k, length-replicate d z)
+
+    by : (j : ℕ) → j < k + d → Place k j → getD (table f k ++ replicate d z) j 0 ≡ getD (table f (k + d)) j 0
+    by j lt (before b) = List·getD-append (table f k) (replicate d z) 0 j (omega (arith, table-length f k)) ∙ table-at f k j b ∙ sym (table-at f (k + d) j lt)
+    by j lt (beyond q b) =
+        let n : j ≡ length (table f k) + q = omega (arith, table-length f k) in
+        ap (λ (i : ℕ). getD (table f k ++ replicate d z) i 0) n ∙ getD-append-add (table f k) (replicate d z) q 0 ∙ getD-replicate d q z 0 (omega arith) ∙ sym (table-at f (k + d) j lt ∙ g j (omega arith) lt)
+
+-- the first m entries, and z behind them, where f is z
+pub table-closed : (f : ℕ → ℕ) (z m n : ℕ) (l : List ℕ) → take m l ≡ table f m → m ≤ n → length l ≡ n → ((k : ℕ) → m ≤ k → k < n → z ≡ f k) → closed z m l ≡ table f n
+unfolding closed
+table-closed f z m n l e h len off =
+    let d : length l - m ≡ n - m = omega arith in
+    rw (e, d) (filled f z (n - m) m (λ k a b. sym (off k a (omega arith))) ∙ ap (table f) (omega arith))

@@ -12,6 +12,7 @@ ghost use Rattle.queue.specs.Queue.{NODES};
 ghost use Rattle.queue.specs.Index.{BLOCKS};
 ghost use Rattle.nodes.specs.Graph.{none};
 ghost use Rattle.nodes.specs.Lent.{graph};
+ghost use Rattle.nodes.specs.Map.{Apart, Mapped};
 ghost use Rattle.astar.specs.Search.{toward, chain};
 ghost use Rattle.astar.specs.Reached.{Ready, Below};
 ghost use Rattle.astar.specs.Scratch.{Marked, Traced};
@@ -23,6 +24,9 @@ const NONE: u32 = 0xFFFF_FFFF;
 
 // The coordinate 0, counted from -2^31.
 const ZERO: u32 = 2147483648;
+
+// So many ends are looked up without a map.
+const FEW: usize = 16;
 
 const START: u8 = 83;
 
@@ -95,17 +99,34 @@ fn coordinate(cs: &[i32], n: usize, line: &[u32], k: usize) -> u32
     ZERO
 }
 
+// How many of a list of b entries a line of a nodes takes.
+fn taken(a: usize, b: usize) -> usize
+    ensures { λ r. ⌜ (r ≤ b) × ((k : ℕ) → r ≤ k → k < b → a ≤ k) ⌝ }
+{
+    if a < b { a } else { b }
+}
+
+// Writes one coordinate of each of the first m nodes of a line.
+fn put_places(cs: &[i32], n: usize, line: &[u32], m: usize, to: &mut [i32])
+    requires { ⌜ (n ≤ length (now cs)) × Below n (now line) × (m ≤ length (now to)) ⌝ }
+    ensures { λ _. ⌜ take m (ups (now (to .exit))) ≡ table (place-at (take n (ups (now (cs .entry)))) (now (line .entry))) m ⌝ }
+{
+    let mut k: usize = 0;
+    while k < m {
+        let c = coordinate(cs, n, line, k);
+        fixed::put(to, k, c);
+        k += 1;
+    }
+}
+
 // Writes one coordinate of each node of a line, zeros behind them.
 fn write_places(cs: &[i32], n: usize, line: &[u32], to: &mut [i32])
     requires { ⌜ (n ≤ length (now cs)) × Below n (now line) ⌝ }
     ensures { λ _. ⌜ ups (now (to .exit)) ≡ table (place-at (take n (ups (now (cs .entry)))) (now (line .entry))) (length (now (to .entry))) ⌝ }
 {
-    let mut k: usize = 0;
-    while k < to.len() {
-        let c = coordinate(cs, n, line, k);
-        fixed::put(to, k, c);
-        k += 1;
-    }
+    let m = taken(line.len(), to.len());
+    put_places(cs, n, line, m, to);
+    zeros::zero_steps(to, m);
 }
 
 // The kind of the k-th of m nodes.
@@ -122,16 +143,26 @@ fn kind(m: usize, k: usize) -> u8
     if k < m { END } else { 0 }
 }
 
-// Writes the kinds of m nodes, zeros behind them.
-fn write_kinds(m: usize, to: &mut [u8])
-    ensures { λ _. ⌜ now (to .exit) ≡ table (kind-at m) (length (now (to .entry))) ⌝ }
+// Writes the kinds of the first j of m nodes.
+fn put_kinds(m: usize, j: usize, to: &mut [u8])
+    requires { ⌜ j ≤ length (now to) ⌝ }
+    ensures { λ _. ⌜ take j (now (to .exit)) ≡ table (kind-at m) j ⌝ }
 {
     let mut k: usize = 0;
-    while k < to.len() {
+    while k < j {
         let c = kind(m, k);
         to[k] = c;
         k += 1;
     }
+}
+
+// Writes the kinds of m nodes, zeros behind them.
+fn write_kinds(m: usize, to: &mut [u8])
+    ensures { λ _. ⌜ now (to .exit) ≡ table (kind-at m) (length (now (to .entry))) ⌝ }
+{
+    let j = taken(m, to.len());
+    put_kinds(m, j, to);
+    zeros::zero_bytes(to, j);
 }
 
 // A direction as its bit.
@@ -160,17 +191,27 @@ fn direction(links: &[u32], n: usize, line: &[u32], k: usize) -> u8
     0
 }
 
+// Writes the direction onward of each of the first m nodes of a line.
+fn put_directions(links: &[u32], n: usize, line: &[u32], m: usize, to: &mut [u8])
+    requires { ⌜ (n ≤ NODES) × (n * 4 ≤ length (now links)) × Below n (now line) × (m ≤ length (now to)) ⌝ }
+    ensures { λ _. ⌜ take m (now (to .exit)) ≡ table (direction-at (take (n * 4) (now (links .entry))) (now (line .entry))) m ⌝ }
+{
+    let mut k: usize = 0;
+    while k < m {
+        let d = direction(links, n, line, k);
+        to[k] = d;
+        k += 1;
+    }
+}
+
 // Writes the direction onward of each node of a line, zeros behind them.
 fn write_directions(links: &[u32], n: usize, line: &[u32], to: &mut [u8])
     requires { ⌜ (n ≤ NODES) × (n * 4 ≤ length (now links)) × Below n (now line) ⌝ }
     ensures { λ _. ⌜ now (to .exit) ≡ table (direction-at (take (n * 4) (now (links .entry))) (now (line .entry))) (length (now (to .entry))) ⌝ }
 {
-    let mut k: usize = 0;
-    while k < to.len() {
-        let d = direction(links, n, line, k);
-        to[k] = d;
-        k += 1;
-    }
+    let m = taken(line.len(), to.len());
+    put_directions(links, n, line, m, to);
+    zeros::zero_bytes(to, m);
 }
 
 // Whether `iter_pruned` keeps the k-th node.
@@ -222,30 +263,77 @@ fn gather(links: &[u32], n: usize, ends: &[u32], marked: &mut [u8], kept: &mut [
     m
 }
 
-// The node of the i-th end, or n.
-fn node_of(xs: &[i32], ys: &[i32], n: usize, ex: &[i32], ey: &[i32], i: usize) -> usize
-    requires { ⌜ (n ≤ length (now xs)) × (n ≤ length (now ys)) × (i < length (now ex)) × (i < length (now ey)) ⌝ }
+// The node of the i-th end, or n: by the map of the nodes' places, or by a scan over all nodes.
+fn node_of(
+    map: &[u32],
+    mapped: bool,
+    xs: &[i32],
+    ys: &[i32],
+    n: usize,
+    ex: &[i32],
+    ey: &[i32],
+    i: usize,
+) -> usize
+    requires { ⌜ (n ≤ NODES) × (n ≤ length (now xs)) × (n ≤ length (now ys)) × (i < length (now ex)) × (i < length (now ey)) ⌝ }
+    requires { ⌜ (mapped ≡ true → Mapped (now map) (ups (now xs)) (ups (now ys)) n) ⌝ }
     ensures { λ r. ⌜ (r ≡ node-at (take n (ups (now (xs .entry)))) (take n (ups (now (ys .entry)))) n (ups (now (ex .entry))) (ups (now (ey .entry))) i) × (r ≤ n) ⌝ }
 {
     let x = fixed::at(ex, i);
     let y = fixed::at(ey, i);
+    if mapped {
+        return nodes::look_up(map, xs, ys, n, x, y);
+    }
     nodes::find_node(xs, ys, n, x, y)
 }
 
-// Looks the ends up, and says whether each is a node.
-pub fn look_up(xs: &[i32], ys: &[i32], n: usize, ex: &[i32], ey: &[i32], ends: &mut [u32]) -> bool
+// Looks each end up, and says whether each is a node.
+fn look_up_each(
+    map: &[u32],
+    mapped: bool,
+    xs: &[i32],
+    ys: &[i32],
+    n: usize,
+    ex: &[i32],
+    ey: &[i32],
+    ends: &mut [u32],
+) -> bool
     requires { ⌜ (n ≤ NODES) × (n ≤ length (now xs)) × (n ≤ length (now ys)) × (length (now ey) ≡ length (now ex)) × (length (now ex) ≤ length (now ends)) ⌝ }
+    requires { ⌜ (mapped ≡ true → Mapped (now map) (ups (now xs)) (ups (now ys)) n) ⌝ }
     ensures { λ r. ⌜ (r ≡ known (take n (ups (now (xs .entry)))) (take n (ups (now (ys .entry)))) n (ups (now (ex .entry))) (ups (now (ey .entry))) (length (now (ex .entry)))) × (take (length (now (ex .entry))) (now (ends .exit)) ≡ table (node-at (take n (ups (now (xs .entry)))) (take n (ups (now (ys .entry)))) n (ups (now (ex .entry))) (ups (now (ey .entry)))) (length (now (ex .entry)))) ⌝ }
 {
     let mut ok = true;
     let mut i: usize = 0;
     while i < ex.len() {
-        let v = node_of(xs, ys, n, ex, ey, i);
+        let v = node_of(map, mapped, xs, ys, n, ex, ey, i);
         ends[i] = v as u32;
         ok = ok & (v < n);
         i += 1;
     }
     ok
+}
+
+// Looks many ends up, by a map of the nodes' places.
+fn look_up_many(xs: &[i32], ys: &[i32], n: usize, ex: &[i32], ey: &[i32], ends: &mut [u32]) -> bool
+    requires { ⌜ (n ≤ NODES) × (n ≤ length (now xs)) × (n ≤ length (now ys)) × (length (now ey) ≡ length (now ex)) × (length (now ex) ≤ length (now ends)) ⌝ }
+    requires { ⌜ Apart (ups (now xs)) (ups (now ys)) n ⌝ }
+    ensures { λ r. ⌜ (r ≡ known (take n (ups (now (xs .entry)))) (take n (ups (now (ys .entry)))) n (ups (now (ex .entry))) (ups (now (ey .entry))) (length (now (ex .entry)))) × (take (length (now (ex .entry))) (now (ends .exit)) ≡ table (node-at (take n (ups (now (xs .entry)))) (take n (ups (now (ys .entry)))) n (ups (now (ex .entry))) (ups (now (ey .entry)))) (length (now (ex .entry)))) ⌝ }
+{
+    let mut map: [u32; nodes::MAP] = [0; nodes::MAP];
+    nodes::enter_all(&mut map, xs, ys, n);
+    look_up_each(&map, true, xs, ys, n, ex, ey, ends)
+}
+
+// Looks the ends up, and says whether each is a node.
+fn look_up(xs: &[i32], ys: &[i32], n: usize, ex: &[i32], ey: &[i32], ends: &mut [u32]) -> bool
+    requires { ⌜ (n ≤ NODES) × (n ≤ length (now xs)) × (n ≤ length (now ys)) × (length (now ey) ≡ length (now ex)) × (length (now ex) ≤ length (now ends)) ⌝ }
+    requires { ⌜ Apart (ups (now xs)) (ups (now ys)) n ⌝ }
+    ensures { λ r. ⌜ (r ≡ known (take n (ups (now (xs .entry)))) (take n (ups (now (ys .entry)))) n (ups (now (ex .entry))) (ups (now (ey .entry))) (length (now (ex .entry)))) × (take (length (now (ex .entry))) (now (ends .exit)) ≡ table (node-at (take n (ups (now (xs .entry)))) (take n (ups (now (ys .entry)))) n (ups (now (ex .entry))) (ups (now (ey .entry)))) (length (now (ex .entry)))) ⌝ }
+{
+    if FEW < ex.len() {
+        return look_up_many(xs, ys, n, ex, ey, ends);
+    }
+    let map: [u32; 1] = [0; 1];
+    look_up_each(&map, false, xs, ys, n, ex, ey, ends)
 }
 
 // Lists the node k behind the first m of `kept` if `iter_pruned` keeps it.

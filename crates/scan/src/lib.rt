@@ -7,6 +7,7 @@ ghost use Rattle.sightline.specs.Sight.{Rising};
 ghost use Rattle.sightline.specs.Lent.{Held, line};
 ghost use Rattle.nodes.specs.Graph.{NODES, find};
 ghost use Rattle.nodes.specs.Lent.{graph, Roomy, Built, Met};
+ghost use Rattle.nodes.specs.Map.{Keyed};
 ghost use Rattle.scan.specs.Walk.{along, room, find-on, place-on, next, step, walk, reach};
 ghost use Rattle.scan.specs.Scan.{has, extent, toward, scans, scan-anchor, scan-at, mark, build-nodes, build};
 ghost use Rattle.scan.specs.Lent.{direction, follow, way, page, Paged, anchors as anchors-of, Anchored};
@@ -50,6 +51,7 @@ fn place_on(
     ys: &mut [i32],
     links: &mut [u32],
     marks: &mut [u32],
+    map: &mut [u32],
     n: usize,
     d: usize,
     across: u32,
@@ -57,12 +59,14 @@ fn place_on(
 ) -> nodes::Spot
     requires { ⌜ Roomy (now xs) (now ys) (now links) (now marks) ⌝ }
     requires { ⌜ n ≤ NODES ⌝ }
+    requires { ⌜ Keyed (now map) (now xs) (now ys) n ⌝ }
     ensures { λ r. ⌜ Met (r .index) (r .count) (find-on (graph n (now (xs .entry)) (now (ys .entry)) (now (links .entry)) (now (marks .entry))) d across c) (graph (r .count) (now (xs .exit)) (now (ys .exit)) (now (links .exit)) (now (marks .exit))) (place-on (graph n (now (xs .entry)) (now (ys .entry)) (now (links .entry)) (now (marks .entry))) d across c) ⌝ }
+    ensures { λ r. ⌜ Keyed (now (map .exit)) (now (xs .exit)) (now (ys .exit)) (r .count) ⌝ }
 {
     if d < 2 {
-        return nodes::place(xs, ys, links, marks, n, c, across, ALL);
+        return nodes::place(xs, ys, links, marks, map, n, c, across, ALL);
     }
-    nodes::place(xs, ys, links, marks, n, across, c, ALL)
+    nodes::place(xs, ys, links, marks, map, n, across, c, ALL)
 }
 
 // The step k of a scan: the node there is met or made, and linked with the one before.
@@ -72,6 +76,7 @@ fn step(
     ys: &mut [i32],
     links: &mut [u32],
     marks: &mut [u32],
+    map: &mut [u32],
     n: usize,
     d: usize,
     from: usize,
@@ -82,10 +87,12 @@ fn step(
     requires { ⌜ Roomy (now xs) (now ys) (now links) (now marks) ⌝ }
     requires { ⌜ (n ≤ NODES) × (prev < n) × (d < 4) ⌝ }
     requires { ⌜ (from < length (now axis)) × (k < room d from (length (now axis))) ⌝ }
+    requires { ⌜ Keyed (now map) (now xs) (now ys) n ⌝ }
     ensures { λ r. ⌜ Met (r .index) (r .count) (next (way d across (now (axis .entry)) from) (graph n (now (xs .entry)) (now (ys .entry)) (now (links .entry)) (now (marks .entry))) k) (graph (r .count) (now (xs .exit)) (now (ys .exit)) (now (links .exit)) (now (marks .exit))) (step (way d across (now (axis .entry)) from) (graph n (now (xs .entry)) (now (ys .entry)) (now (links .entry)) (now (marks .entry))) prev k) ⌝ }
+    ensures { λ r. ⌜ Keyed (now (map .exit)) (now (xs .exit)) (now (ys .exit)) (r .count) ⌝ }
 {
     let c = along(axis, d, from, k);
-    let s = place_on(xs, ys, links, marks, n, d, across, c);
+    let s = place_on(xs, ys, links, marks, map, n, d, across, c);
     let j = s.index;
     let count = s.count;
     if nodes::NODES < count {
@@ -108,6 +115,7 @@ fn walk(
     ys: &mut [i32],
     links: &mut [u32],
     marks: &mut [u32],
+    map: &mut [u32],
     n: usize,
     d: usize,
     from: usize,
@@ -118,13 +126,28 @@ fn walk(
     requires { ⌜ Roomy (now xs) (now ys) (now links) (now marks) ⌝ }
     requires { ⌜ (n ≤ NODES) × (start < n) × (d < 4) ⌝ }
     requires { ⌜ (from < length (now axis)) × (m ≤ room d from (length (now axis))) ⌝ }
+    requires { ⌜ Keyed (now map) (now xs) (now ys) n ⌝ }
     ensures { λ r. ⌜ Built r (graph r (now (xs .exit)) (now (ys .exit)) (now (links .exit)) (now (marks .exit))) (walk (way d across (now (axis .entry)) from) (graph n (now (xs .entry)) (now (ys .entry)) (now (links .entry)) (now (marks .entry))) start 0 m) ⌝ }
+    ensures { λ r. ⌜ Keyed (now (map .exit)) (now (xs .exit)) (now (ys .exit)) r ⌝ }
 {
     let mut count = n;
     let mut prev = start;
     let mut k = 0;
     while k < m {
-        let s = step(axis, xs, ys, links, marks, count, d, from, across, prev, k);
+        let s = step(
+            axis,
+            xs,
+            ys,
+            links,
+            marks,
+            map,
+            count,
+            d,
+            from,
+            across,
+            prev,
+            k,
+        );
         count = s.count;
         prev = s.index;
         if nodes::NODES < count {
@@ -249,6 +272,7 @@ fn toward<'a>(
     ys: &mut [i32],
     links: &mut [u32],
     marks: &mut [u32],
+    map: &mut [u32],
     n: usize,
     x: u32,
     y: u32,
@@ -262,13 +286,15 @@ fn toward<'a>(
     requires { ⌜ Paged (now bx) (now by) (now ex) (now ey) boxes (now ax) (now ay) ⌝ }
     requires { ⌜ Roomy (now xs) (now ys) (now links) (now marks) ⌝ }
     requires { ⌜ (n ≤ NODES) × (node < n) × (d < 4) × (i < length (now ax)) × (j < length (now ay)) ⌝ }
+    requires { ⌜ Keyed (now map) (now xs) (now ys) n ⌝ }
     ensures { λ r. ⌜ Built r (graph r (now (xs .exit)) (now (ys .exit)) (now (links .exit)) (now (marks .exit))) (toward (page (now (bx .entry)) (now (by .entry)) (now (ex .entry)) (now (ey .entry)) boxes (now (ax .entry)) (now (ay .entry))) (record { x = x; y = y; dirs = dirs; box = ignore }) node i j d (graph n (now (xs .entry)) (now (ys .entry)) (now (links .entry)) (now (marks .entry)))) ⌝ }
+    ensures { λ r. ⌜ Keyed (now (map .exit)) (now (xs .exit)) (now (ys .exit)) r ⌝ }
 {
     let m = extent(bx, by, ex, ey, boxes, ax, ay, x, y, dirs, ignore, i, j, d);
     if d < 2 {
-        return walk(ax, xs, ys, links, marks, n, d, i, y, node, m);
+        return walk(ax, xs, ys, links, marks, map, n, d, i, y, node, m);
     }
-    walk(ay, xs, ys, links, marks, n, d, j, x, node, m)
+    walk(ay, xs, ys, links, marks, map, n, d, j, x, node, m)
 }
 
 // The scans of an anchor in its directions.
@@ -284,6 +310,7 @@ fn scans<'a>(
     ys: &mut [i32],
     links: &mut [u32],
     marks: &mut [u32],
+    map: &mut [u32],
     n: usize,
     x: u32,
     y: u32,
@@ -296,7 +323,9 @@ fn scans<'a>(
     requires { ⌜ Paged (now bx) (now by) (now ex) (now ey) boxes (now ax) (now ay) ⌝ }
     requires { ⌜ Roomy (now xs) (now ys) (now links) (now marks) ⌝ }
     requires { ⌜ (n ≤ NODES) × (node < n) × (i < length (now ax)) × (j < length (now ay)) ⌝ }
+    requires { ⌜ Keyed (now map) (now xs) (now ys) n ⌝ }
     ensures { λ r. ⌜ Built r (graph r (now (xs .exit)) (now (ys .exit)) (now (links .exit)) (now (marks .exit))) (scans (page (now (bx .entry)) (now (by .entry)) (now (ex .entry)) (now (ey .entry)) boxes (now (ax .entry)) (now (ay .entry))) (record { x = x; y = y; dirs = dirs; box = ignore }) node i j (graph n (now (xs .entry)) (now (ys .entry)) (now (links .entry)) (now (marks .entry)))) ⌝ }
+    ensures { λ r. ⌜ Keyed (now (map .exit)) (now (xs .exit)) (now (ys .exit)) r ⌝ }
 {
     let mut count = n;
     let mut d = 0;
@@ -313,6 +342,7 @@ fn scans<'a>(
             ys,
             links,
             marks,
+            map,
             count,
             x,
             y,
@@ -344,6 +374,7 @@ fn scan_anchor<'a>(
     ys: &mut [i32],
     links: &mut [u32],
     marks: &mut [u32],
+    map: &mut [u32],
     n: usize,
     x: u32,
     y: u32,
@@ -353,9 +384,11 @@ fn scan_anchor<'a>(
     requires { ⌜ Paged (now bx) (now by) (now ex) (now ey) boxes (now ax) (now ay) ⌝ }
     requires { ⌜ Roomy (now xs) (now ys) (now links) (now marks) ⌝ }
     requires { ⌜ n ≤ NODES ⌝ }
+    requires { ⌜ Keyed (now map) (now xs) (now ys) n ⌝ }
     ensures { λ r. ⌜ Built r (graph r (now (xs .exit)) (now (ys .exit)) (now (links .exit)) (now (marks .exit))) (scan-anchor (page (now (bx .entry)) (now (by .entry)) (now (ex .entry)) (now (ey .entry)) boxes (now (ax .entry)) (now (ay .entry))) (record { x = x; y = y; dirs = dirs; box = ignore }) (graph n (now (xs .entry)) (now (ys .entry)) (now (links .entry)) (now (marks .entry)))) ⌝ }
+    ensures { λ r. ⌜ Keyed (now (map .exit)) (now (xs .exit)) (now (ys .exit)) r ⌝ }
 {
-    let node = nodes::find_node(xs, ys, n, x, y);
+    let node = nodes::look_up(map, xs, ys, n, x, y);
     let i = axis::index(ax, x);
     let j = axis::index(ay, y);
     if node < n {
@@ -373,6 +406,7 @@ fn scan_anchor<'a>(
                     ys,
                     links,
                     marks,
+                    map,
                     n,
                     x,
                     y,
@@ -420,6 +454,7 @@ fn scan_at<'a>(
     ys: &mut [i32],
     links: &mut [u32],
     marks: &mut [u32],
+    map: &mut [u32],
     n: usize,
     k: usize,
 ) -> usize
@@ -427,7 +462,9 @@ fn scan_at<'a>(
     requires { ⌜ Anchored (now cx) (now cy) (now dirs) (now own) anchors ⌝ }
     requires { ⌜ Roomy (now xs) (now ys) (now links) (now marks) ⌝ }
     requires { ⌜ (n ≤ NODES) × (k < anchors) ⌝ }
+    requires { ⌜ Keyed (now map) (now xs) (now ys) n ⌝ }
     ensures { λ r. ⌜ Built r (graph r (now (xs .exit)) (now (ys .exit)) (now (links .exit)) (now (marks .exit))) (scan-at (page (now (bx .entry)) (now (by .entry)) (now (ex .entry)) (now (ey .entry)) boxes (now (ax .entry)) (now (ay .entry))) (anchors-of (now (cx .entry)) (now (cy .entry)) (now (dirs .entry)) (now (own .entry)) explicit anchors) k (graph n (now (xs .entry)) (now (ys .entry)) (now (links .entry)) (now (marks .entry)))) ⌝ }
+    ensures { λ r. ⌜ Keyed (now (map .exit)) (now (xs .exit)) (now (ys .exit)) r ⌝ }
 {
     let x = fixed::at(cx, k);
     let y = fixed::at(cy, k);
@@ -443,6 +480,7 @@ fn scan_at<'a>(
         ys,
         links,
         marks,
+        map,
         n,
         x,
         y,
@@ -463,10 +501,13 @@ pub fn build_nodes(
     ys: &mut [i32],
     links: &mut [u32],
     marks: &mut [u32],
+    map: &mut [u32],
 ) -> usize
     requires { ⌜ Anchored (now cx) (now cy) (now dirs) (now own) anchors ⌝ }
     requires { ⌜ Roomy (now xs) (now ys) (now links) (now marks) ⌝ }
+    requires { ⌜ Keyed (now map) (now xs) (now ys) 0 ⌝ }
     ensures { λ r. ⌜ Built r (graph r (now (xs .exit)) (now (ys .exit)) (now (links .exit)) (now (marks .exit))) (build-nodes (anchors-of (now (cx .entry)) (now (cy .entry)) (now (dirs .entry)) (now (own .entry)) explicit anchors)) ⌝ }
+    ensures { λ r. ⌜ Keyed (now (map .exit)) (now (xs .exit)) (now (ys .exit)) r ⌝ }
 {
     let mut count = 0;
     let mut k = 0;
@@ -474,7 +515,7 @@ pub fn build_nodes(
         let x = fixed::at(cx, k);
         let y = fixed::at(cy, k);
         let m = mark(dirs, explicit, k);
-        let s = nodes::place(xs, ys, links, marks, count, x, y, m);
+        let s = nodes::place(xs, ys, links, marks, map, count, x, y, m);
         count = s.count;
         if nodes::NODES < count {
             return count;
@@ -484,7 +525,82 @@ pub fn build_nodes(
     count
 }
 
-// The graph, not pruned: how many nodes it has, or more than NODES where it would have more.
+// The graph, not pruned, by a map of its places, which is empty: how many nodes it has, or more than NODES where it would have more.
+fn build_by<'a>(
+    bx: &[i32],
+    by: &[i32],
+    ex: &[i32],
+    ey: &[i32],
+    boxes: usize,
+    ax: &'a [i32],
+    ay: &'a [i32],
+    cx: &[i32],
+    cy: &[i32],
+    dirs: &[u32],
+    own: &[u32],
+    explicit: usize,
+    anchors: usize,
+    xs: &mut [i32],
+    ys: &mut [i32],
+    links: &mut [u32],
+    marks: &mut [u32],
+    map: &mut [u32],
+) -> usize
+    requires { ⌜ Paged (now bx) (now by) (now ex) (now ey) boxes (now ax) (now ay) ⌝ }
+    requires { ⌜ Anchored (now cx) (now cy) (now dirs) (now own) anchors ⌝ }
+    requires { ⌜ Roomy (now xs) (now ys) (now links) (now marks) ⌝ }
+    requires { ⌜ Keyed (now map) (now xs) (now ys) 0 ⌝ }
+    ensures { λ r. ⌜ Built r (graph r (now (xs .exit)) (now (ys .exit)) (now (links .exit)) (now (marks .exit))) (build (page (now (bx .entry)) (now (by .entry)) (now (ex .entry)) (now (ey .entry)) boxes (now (ax .entry)) (now (ay .entry))) (anchors-of (now (cx .entry)) (now (cy .entry)) (now (dirs .entry)) (now (own .entry)) explicit anchors)) ⌝ }
+{
+    let mut count = build_nodes(
+        cx,
+        cy,
+        dirs,
+        own,
+        explicit,
+        anchors,
+        xs,
+        ys,
+        links,
+        marks,
+        map,
+    );
+    if nodes::NODES < count {
+        return count;
+    }
+    let mut k = 0;
+    while k < anchors {
+        count = scan_at(
+            bx,
+            by,
+            ex,
+            ey,
+            boxes,
+            ax,
+            ay,
+            cx,
+            cy,
+            dirs,
+            own,
+            explicit,
+            anchors,
+            xs,
+            ys,
+            links,
+            marks,
+            map,
+            count,
+            k,
+        );
+        if nodes::NODES < count {
+            return count;
+        }
+        k += 1;
+    }
+    count
+}
+
+// The graph, not pruned: how many nodes it has, or more than NODES where it would have more. The map is made here.
 pub fn build<'a>(
     bx: &[i32],
     by: &[i32],
@@ -509,37 +625,25 @@ pub fn build<'a>(
     requires { ⌜ Roomy (now xs) (now ys) (now links) (now marks) ⌝ }
     ensures { λ r. ⌜ Built r (graph r (now (xs .exit)) (now (ys .exit)) (now (links .exit)) (now (marks .exit))) (build (page (now (bx .entry)) (now (by .entry)) (now (ex .entry)) (now (ey .entry)) boxes (now (ax .entry)) (now (ay .entry))) (anchors-of (now (cx .entry)) (now (cy .entry)) (now (dirs .entry)) (now (own .entry)) explicit anchors)) ⌝ }
 {
-    let mut count = build_nodes(cx, cy, dirs, own, explicit, anchors, xs, ys, links, marks);
-    if nodes::NODES < count {
-        return count;
-    }
-    let mut k = 0;
-    while k < anchors {
-        count = scan_at(
-            bx,
-            by,
-            ex,
-            ey,
-            boxes,
-            ax,
-            ay,
-            cx,
-            cy,
-            dirs,
-            own,
-            explicit,
-            anchors,
-            xs,
-            ys,
-            links,
-            marks,
-            count,
-            k,
-        );
-        if nodes::NODES < count {
-            return count;
-        }
-        k += 1;
-    }
-    count
+    let mut map: [u32; nodes::MAP] = [0; nodes::MAP];
+    build_by(
+        bx,
+        by,
+        ex,
+        ey,
+        boxes,
+        ax,
+        ay,
+        cx,
+        cy,
+        dirs,
+        own,
+        explicit,
+        anchors,
+        xs,
+        ys,
+        links,
+        marks,
+        &mut map,
+    )
 }

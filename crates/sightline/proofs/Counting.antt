@@ -1,8 +1,9 @@
 -- Laws of `any` and `run`.
---     any-here, any-none, any-weaken     a number that passes; none that does; a test that holds wherever another does
+--     any-more, any-here, any-none, any-weaken     one number more; a number that passes; none that does; a test that holds wherever another does
 --     Cut, cut-run, cut-unique           what fixes the count of a run
 --     run-left, run-right                a test that fails at c: the run below c. One that passes there, and so before it: c + 1, and the run beyond
 --     run-far                            the count from the far end
+use native.Mathlib.Numerals.{add-one}
 use mathlib.Core.Path.{_≡_, refl, sym, ap, _∙_, subst}
 use mathlib.Core.Logic.{⊎-elim}
 use mathlib.Core.Bool.{Bool, true, false, not, cond, _||_}
@@ -19,6 +20,10 @@ or-left a b e = rw e
 or-right : (a b : Bool) → b ≡ true → (a || b) ≡ true
 or-right true b e = refl
 or-right false b e = e
+
+pub any-more : (p : ℕ → Bool) (n : ℕ) (b r : Bool) → b ≡ p n → r ≡ any p n → (b || r) ≡ any p (n + 1)
+unfolding any
+any-more p n b r e f = rw (add-one, e, f)
 
 pub any-here : (p : ℕ → Bool) (n k : ℕ) → k < n → p k ≡ true → any p n ≡ true
 unfolding any

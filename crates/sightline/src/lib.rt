@@ -16,19 +16,7 @@ ghost use Rattle.sightline.specs.Lent.{Held, line};
 fn stops(low: u32, high: u32, from: u32, to: u32, c: u32, a: u32, b: u32) -> bool
     ensures { λ r. ⌜ r ≡ stops low high from to c a b ⌝ }
 {
-    if c < low {
-        return false;
-    }
-    if high < c {
-        return false;
-    }
-    if b < from {
-        return false;
-    }
-    if to < a {
-        return false;
-    }
-    true
+    (((low <= c) & (c <= high)) & (from <= b)) & (a <= to)
 }
 
 // Whether the box i, unless it is ignored, stops the way from a to b on the line at c.
@@ -48,18 +36,16 @@ fn box_stops(
     requires { ⌜ i < n ⌝ }
     ensures { λ r. ⌜ r ≡ box-stops (line (now (low .entry)) (now (high .entry)) (now (from .entry)) (now (to .entry)) n c ignore) a b i ⌝ }
 {
-    if i == ignore {
-        return false;
-    }
-    stops(
-        fixed::at(low, i),
-        fixed::at(high, i),
-        fixed::at(from, i),
-        fixed::at(to, i),
-        c,
-        a,
-        b,
-    )
+    (i != ignore)
+        & stops(
+            fixed::at(low, i),
+            fixed::at(high, i),
+            fixed::at(from, i),
+            fixed::at(to, i),
+            c,
+            a,
+            b,
+        )
 }
 
 // Whether no box but the ignored one stops the way from a to b on the line at c.
@@ -77,14 +63,13 @@ pub fn clear(
     requires { ⌜ Held n (now low) (now high) (now from) (now to) ⌝ }
     ensures { λ r. ⌜ r ≡ clear (line (now (low .entry)) (now (high .entry)) (now (from .entry)) (now (to .entry)) n c ignore) a b ⌝ }
 {
+    let mut blocked = false;
     let mut i = 0;
     while i < n {
-        if box_stops(low, high, from, to, n, i, c, a, b, ignore) {
-            return false;
-        }
+        blocked = box_stops(low, high, from, to, n, i, c, a, b, ignore) | blocked;
         i += 1;
     }
-    true
+    !blocked
 }
 
 // Whether x comes before the cutoff: ahead of the anchor a clear coordinate, behind it a blocked one.

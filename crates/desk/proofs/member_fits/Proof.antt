@@ -1,4 +1,4 @@
--- `desk::member_fits` meets its contract. The row is lent as a part, and its first word looked up among the owners.
+-- `desk::member_fits` meets its contract. The row is lent as a part, and its first word looked up in the table.
 use mathlib.Core.Path.{refl}
 use Prim.Native.Nat.{_-_, _+_, _*_}
 use native.Mathlib.Omega.{arith}
@@ -14,16 +14,16 @@ width-requires : tie.Need-width-requires
 width-requires c κs = search needs
 
 mul-a : tie.Need-mul-a
-mul-a c = omega (arith, Valid.in-row (c .before .before .before .args .kind) (c .width .result) (c .before .before .before .args .i) (c .before .before .before .args .n) (length (c .before .before .before .args .part .now)) (c .width .ensures) (c .before .before .before .pre .0 .0) (c .before .before .before .pre .0 .1))
+mul-a c = omega (arith, Valid.in-row (c .before .before .before .args .kind) (c .width .result) (c .before .before .before .args .i) (c .before .before .before .args .n) (length (c .before .before .before .args .part .now)) (c .width .ensures) (c .before .before .before .pre .0) (c .before .before .before .pre .1))
 
 add-a : tie.Need-add-a
-add-a c = omega (arith, Valid.in-row (c .before .before .before .args .kind) (c .width .result) (c .before .before .before .args .i) (c .before .before .before .args .n) (length (c .before .before .before .args .part .now)) (c .width .ensures) (c .before .before .before .pre .0 .0) (c .before .before .before .pre .0 .1))
+add-a c = omega (arith, Valid.in-row (c .before .before .before .args .kind) (c .width .result) (c .before .before .before .args .i) (c .before .before .before .args .n) (length (c .before .before .before .args .part .now)) (c .width .ensures) (c .before .before .before .pre .0) (c .before .before .before .pre .1))
 
 add-ok-record : tie.Need-add-ok-record
-add-ok-record c = omega (arith, Valid.in-row (c .before .before .before .args .kind) (c .width .result) (c .before .before .before .args .i) (c .before .before .before .args .n) (length (c .before .before .before .args .part .now)) (c .width .ensures) (c .before .before .before .pre .0 .0) (c .before .before .before .pre .0 .1))
+add-ok-record c = omega (arith, Valid.in-row (c .before .before .before .args .kind) (c .width .result) (c .before .before .before .args .i) (c .before .before .before .args .n) (length (c .before .before .before .args .part .now)) (c .width .ensures) (c .before .before .before .pre .0) (c .before .before .before .pre .1))
 
 mul-ok-record : tie.Need-mul-ok-record
-mul-ok-record c = omega (arith, Valid.in-row (c .before .before .before .args .kind) (c .width .result) (c .before .before .before .args .i) (c .before .before .before .args .n) (length (c .before .before .before .args .part .now)) (c .width .ensures) (c .before .before .before .pre .0 .0) (c .before .before .before .pre .0 .1))
+mul-ok-record c = omega (arith, Valid.in-row (c .before .before .before .args .kind) (c .width .result) (c .before .before .before .args .i) (c .before .before .before .args .n) (length (c .before .before .before .args .part .now)) (c .width .ensures) (c .before .before .before .pre .0) (c .before .before .before .pre .1))
 
 sub-ok-record : tie.Need-sub-ok-record
 sub-ok-record c = search needs
@@ -32,22 +32,28 @@ part-ok-record-start : tie.Need-part-ok-record-start
 part-ok-record-start c = search needs
 
 part-ok-record-end : tie.Need-part-ok-record-end
-part-ok-record-end c = omega (arith, Valid.in-row (c .before .before .before .args .kind) (c .width .result) (c .before .before .before .args .i) (c .before .before .before .args .n) (length (c .before .before .before .args .part .now)) (c .width .ensures) (c .before .before .before .pre .0 .0) (c .before .before .before .pre .0 .1))
+part-ok-record-end c = omega (arith, Valid.in-row (c .before .before .before .args .kind) (c .width .result) (c .before .before .before .args .i) (c .before .before .before .args .n) (length (c .before .before .before .args .part .now)) (c .width .ensures) (c .before .before .before .pre .0) (c .before .before .before .pre .1))
 
 ok-record-requires : tie.Need-ok-record-requires
-ok-record-requires c κs = Valid.row-long (c .before .before .before .before .args .kind) (c .before .before .before .before .args .part .now) (c .before .width .result) (c .before .before .before .before .args .i) (1 + c .before .before .before .before .args .i * c .before .width .result + c .before .width .result - (1 + c .before .before .before .before .args .i * c .before .width .result)) (c .before .width .ensures) refl (c .before .before .before .before .args .n) (c .before .before .before .before .pre .0 .0) (c .before .before .before .before .pre .0 .1)
-
-mul-is-in : tie.Need-mul-is-in
-mul-is-in c = omega (arith, Valid.in-row (c .before .before .before .before .before .args .kind) (c .before .before .width .result) (c .before .before .before .before .before .args .i) (c .before .before .before .before .before .args .n) (length (c .before .before .before .before .before .args .part .now)) (c .before .before .width .ensures) (c .before .before .before .before .before .pre .0 .0) (c .before .before .before .before .before .pre .0 .1))
-
-shared-slice-read-is-in : tie.Need-shared-slice-read-is-in
-shared-slice-read-is-in c = omega (arith, Valid.in-row (c .before .before .before .before .before .before .args .kind) (c .before .before .before .width .result) (c .before .before .before .before .before .before .args .i) (c .before .before .before .before .before .before .args .n) (length (c .before .before .before .before .before .before .args .part .now)) (c .before .before .before .width .ensures) (c .before .before .before .before .before .before .pre .0 .0) (c .before .before .before .before .before .before .pre .0 .1))
-
-is-in-requires : tie.Need-is-in-requires
-is-in-requires c κs = search needs
+ok-record-requires c κs = Valid.row-long (c .before .before .before .before .args .kind) (c .before .before .before .before .args .part .now) (c .before .width .result) (c .before .before .before .before .args .i) (1 + c .before .before .before .before .args .i * c .before .width .result + c .before .width .result - (1 + c .before .before .before .before .args .i * c .before .width .result)) (c .before .width .ensures) refl (c .before .before .before .before .args .n) (c .before .before .before .before .pre .0) (c .before .before .before .before .pre .1)
 
 returns : tie.Need-returns
-returns c = Valid.member-fits _ _ _ _ (1 + c .before .before .before .before .before .before .before .args .i * c .before .before .before .before .width .result + c .before .before .before .before .width .result - (1 + c .before .before .before .before .before .before .before .args .i * c .before .before .before .before .width .result)) (c .before .before .before .before .width .ensures) refl _ _ (c .before .before .ok-record .ensures) _ _ _ (c .is-in .ensures)
+returns c os rs st = Valid.member-bad _ _ _ _ (1 + c .before .before .before .before .before .before .args .i * c .before .before .before .width .result + c .before .before .before .width .result - (1 + c .before .before .before .before .before .before .args .i * c .before .before .before .width .result)) (c .before .before .before .width .ensures) refl _ (c .before .ok-record .ensures) (c .if1 .taken) os rs
+
+mul-wide : tie.Need-mul-wide
+mul-wide c = omega (arith, Valid.in-row (c .before .before .before .before .before .before .args .kind) (c .before .before .before .width .result) (c .before .before .before .before .before .before .args .i) (c .before .before .before .before .before .before .args .n) (length (c .before .before .before .before .before .before .args .part .now)) (c .before .before .before .width .ensures) (c .before .before .before .before .before .before .pre .0) (c .before .before .before .before .before .before .pre .1))
+
+shared-slice-read-wide : tie.Need-shared-slice-read-wide
+shared-slice-read-wide c = omega (arith, Valid.in-row (c .before .before .before .before .before .before .before .args .kind) (c .before .before .before .before .width .result) (c .before .before .before .before .before .before .before .args .i) (c .before .before .before .before .before .before .before .args .n) (length (c .before .before .before .before .before .before .before .args .part .now)) (c .before .before .before .before .width .ensures) (c .before .before .before .before .before .before .before .pre .0) (c .before .before .before .before .before .before .before .pre .1))
+
+wide-requires : tie.Need-wide-requires
+wide-requires c κs = search needs
+
+shared-slice-read-result : tie.Need-shared-slice-read-result
+shared-slice-read-result c = omega (arith, c .before .wide .ensures, c .before .before .before .before .before .before .before .before .before .pre .2, Valid.id-in _ _ _ _ (1 + c .before .before .before .before .before .before .before .before .before .args .i * c .before .before .before .before .before .before .width .result + c .before .before .before .before .before .before .width .result - (1 + c .before .before .before .before .before .before .before .before .before .args .i * c .before .before .before .before .before .before .width .result)) (c .before .before .before .before .before .before .width .ensures) refl _ (c .before .before .before .before .ok-record .ensures) (c .before .before .before .if1 .left))
+
+returns-2 : tie.Need-returns-2
+returns-2 c = Valid.member-fits _ _ _ _ (1 + c .before .before .before .before .before .before .before .before .before .args .i * c .before .before .before .before .before .before .width .result + c .before .before .before .before .before .before .width .result - (1 + c .before .before .before .before .before .before .before .before .before .args .i * c .before .before .before .before .before .before .width .result)) (c .before .before .before .before .before .before .width .ensures) refl _ (c .before .before .before .before .ok-record .ensures) (c .before .before .before .if1 .left) _ _ _ (c .before .wide .ensures)
 
 pub member-fits-spec : {M : Type 1} → statement M
 member-fits-spec =
@@ -62,7 +68,9 @@ member-fits-spec =
     part-ok-record-start
     part-ok-record-end
     ok-record-requires
-    mul-is-in
-    shared-slice-read-is-in
-    is-in-requires
-    returns)
+    returns
+    mul-wide
+    shared-slice-read-wide
+    wide-requires
+    shared-slice-read-result
+    returns-2)

@@ -1,39 +1,43 @@
--- `desk::ok_block` meets its contract. The four lists in turn.
+-- `desk::ok_block` meets its contract. The boxes with the ports, then the nets with the ends under the next stamp.
+use mathlib.Core.Path.{sym}
+use mathlib.Core.Bool.{true≢false}
+use native.Mathlib.Omega.{arith}
 use borrow.Author.Needs.{needs}
-use Rattle.desk.specs.declared.Kind.{Kind}
+use borrow.Author.Tests.{not-false}
+use Rattle.desk.proofs.Stamps
 use Rattle.desk.proofs.Valid
 use Rattle.desk.proofs.ok_block.Statement.{statement}
 use Rattle.desk.proofs.ok_block.Tie as tie
 
-ok-owners-requires : tie.Need-ok-owners-requires
-ok-owners-requires c κs = search needs
+ok-pair-requires : tie.Need-ok-pair-requires
+ok-pair-requires c κs = (c .before .before .before .pre .0 .0, c .before .before .before .pre .1)
+
+same-length : tie.Need-same-length
+same-length c = search needs
 
 returns : tie.Need-returns
-returns c = Valid.block-boxes _ _ (c .before .ok-owners .ensures) (c .if1 .taken)
+returns c = (Valid.block-bad _ _ (c .before .before .before .ok-pair .ensures .0) (c .if1 .taken), λ z. absurd (true≢false (sym z)))
 
-ok-owners-requires-2 : tie.Need-ok-owners-requires-2
-ok-owners-requires-2 c κs = search needs
+add-ok-pair : tie.Need-add-ok-pair
+add-ok-pair c = search needs
+
+ok-pair-requires-2 : tie.Need-ok-pair-requires-2
+ok-pair-requires-2 c κs = (c .before .before .before .before .before .before .before .before .pre .0 .0, c .before .before .before .before .ok-pair .ensures .1 (not-false _ (c .before .if1 .left)))
+
+same-length-2 : tie.Need-same-length-2
+same-length-2 c = search needs
 
 returns-2 : tie.Need-returns-2
-returns-2 c = Valid.block-nets _ _ (c .before .before .before .ok-owners .ensures) _ (c .before .ok-owners2 .ensures) (c .before .before .if1 .left) (c .if2 .taken)
-
-ok-members-requires : tie.Need-ok-members-requires
-ok-members-requires c κs = (c .before .before .before .before .before .pre, Valid.owners-few Kind.Box _ _ (c .before .before .before .ok-owners .ensures) (c .before .before .if1 .left))
-
-ok-members-requires-2 : tie.Need-ok-members-requires-2
-ok-members-requires-2 c κs = (c .before .before .before .before .before .before .pre, Valid.owners-few Kind.Net _ _ (c .before .before .ok-owners2 .ensures) (c .before .if2 .left))
-
-returns-3 : tie.Need-returns-3
-returns-3 c = Valid.block-rest _ _ (c .before .before .before .before .before .ok-owners .ensures) _ (c .before .before .before .ok-owners2 .ensures) (c .before .before .before .before .if1 .left) _ _ (c .before .before .if2 .left) (c .before .ok-members .ensures) (c .ok-members2 .ensures)
+returns-2 c = (Valid.block-rest _ _ (c .before .before .before .before .before .before .before .ok-pair .ensures .0) _ (c .before .before .before .before .if1 .left) (c .before .before .ok-pair2 .ensures .0), λ z. Stamps.later _ _ _ (c .before .before .ok-pair2 .ensures .1 z) (omega arith))
 
 pub ok-block-spec : {M : Type 1} → statement M
 ok-block-spec =
     tie.close
     (tie.spec
-    ok-owners-requires
+    ok-pair-requires
+    same-length
     returns
-    ok-owners-requires-2
-    returns-2
-    ok-members-requires
-    ok-members-requires-2
-    returns-3)
+    add-ok-pair
+    ok-pair-requires-2
+    same-length-2
+    returns-2)

@@ -1,5 +1,6 @@
--- `desk::own_fits` meets its contract. The row is lent as a part, and its first word looked up behind it.
-use mathlib.Core.Path.{refl}
+-- `desk::own_fits` meets its contract. The row is lent as a part, and its first word stamped.
+use mathlib.Core.Path.{refl, sym}
+use mathlib.Core.Bool.{true≢false}
 use Prim.Native.Nat.{_-_, _+_, _*_}
 use native.Mathlib.Omega.{arith}
 use lib.ListN.{length}
@@ -14,16 +15,16 @@ width-requires : tie.Need-width-requires
 width-requires c κs = search needs
 
 mul-a : tie.Need-mul-a
-mul-a c = omega (arith, Valid.in-row (c .before .before .args .kind) (c .width .result) (c .before .before .args .i) (c .before .before .args .n) (length (c .before .before .args .part .now)) (c .width .ensures) (c .before .before .pre .0) (c .before .before .pre .1))
+mul-a c = omega (arith, Valid.in-row (c .before .before .before .args .kind) (c .width .result) (c .before .before .before .args .i) (c .before .before .before .args .n) (length (c .before .before .before .args .part .now)) (c .width .ensures) (c .before .before .before .pre .0 .0) (c .before .before .before .pre .0 .1))
 
 add-a : tie.Need-add-a
-add-a c = omega (arith, Valid.in-row (c .before .before .args .kind) (c .width .result) (c .before .before .args .i) (c .before .before .args .n) (length (c .before .before .args .part .now)) (c .width .ensures) (c .before .before .pre .0) (c .before .before .pre .1))
+add-a c = omega (arith, Valid.in-row (c .before .before .before .args .kind) (c .width .result) (c .before .before .before .args .i) (c .before .before .before .args .n) (length (c .before .before .before .args .part .now)) (c .width .ensures) (c .before .before .before .pre .0 .0) (c .before .before .before .pre .0 .1))
 
 add-ok-record : tie.Need-add-ok-record
-add-ok-record c = omega (arith, Valid.in-row (c .before .before .args .kind) (c .width .result) (c .before .before .args .i) (c .before .before .args .n) (length (c .before .before .args .part .now)) (c .width .ensures) (c .before .before .pre .0) (c .before .before .pre .1))
+add-ok-record c = omega (arith, Valid.in-row (c .before .before .before .args .kind) (c .width .result) (c .before .before .before .args .i) (c .before .before .before .args .n) (length (c .before .before .before .args .part .now)) (c .width .ensures) (c .before .before .before .pre .0 .0) (c .before .before .before .pre .0 .1))
 
 mul-ok-record : tie.Need-mul-ok-record
-mul-ok-record c = omega (arith, Valid.in-row (c .before .before .args .kind) (c .width .result) (c .before .before .args .i) (c .before .before .args .n) (length (c .before .before .args .part .now)) (c .width .ensures) (c .before .before .pre .0) (c .before .before .pre .1))
+mul-ok-record c = omega (arith, Valid.in-row (c .before .before .before .args .kind) (c .width .result) (c .before .before .before .args .i) (c .before .before .before .args .n) (length (c .before .before .before .args .part .now)) (c .width .ensures) (c .before .before .before .pre .0 .0) (c .before .before .before .pre .0 .1))
 
 sub-ok-record : tie.Need-sub-ok-record
 sub-ok-record c = search needs
@@ -32,25 +33,31 @@ part-ok-record-start : tie.Need-part-ok-record-start
 part-ok-record-start c = search needs
 
 part-ok-record-end : tie.Need-part-ok-record-end
-part-ok-record-end c = omega (arith, Valid.in-row (c .before .before .args .kind) (c .width .result) (c .before .before .args .i) (c .before .before .args .n) (length (c .before .before .args .part .now)) (c .width .ensures) (c .before .before .pre .0) (c .before .before .pre .1))
+part-ok-record-end c = omega (arith, Valid.in-row (c .before .before .before .args .kind) (c .width .result) (c .before .before .before .args .i) (c .before .before .before .args .n) (length (c .before .before .before .args .part .now)) (c .width .ensures) (c .before .before .before .pre .0 .0) (c .before .before .before .pre .0 .1))
 
 ok-record-requires : tie.Need-ok-record-requires
-ok-record-requires c κs = Valid.row-long (c .before .before .before .args .kind) (c .before .before .before .args .part .now) (c .before .width .result) (c .before .before .before .args .i) (1 + c .before .before .before .args .i * c .before .width .result + c .before .width .result - (1 + c .before .before .before .args .i * c .before .width .result)) (c .before .width .ensures) refl (c .before .before .before .args .n) (c .before .before .before .pre .0) (c .before .before .before .pre .1)
-
-add-is-in : tie.Need-add-is-in
-add-is-in c = search needs
-
-mul-is-in : tie.Need-mul-is-in
-mul-is-in c = omega (arith, Valid.in-row (c .before .before .before .before .args .kind) (c .before .before .width .result) (c .before .before .before .before .args .i) (c .before .before .before .before .args .n) (length (c .before .before .before .before .args .part .now)) (c .before .before .width .ensures) (c .before .before .before .before .pre .0) (c .before .before .before .before .pre .1))
-
-shared-slice-read-is-in : tie.Need-shared-slice-read-is-in
-shared-slice-read-is-in c = omega (arith, Valid.in-row (c .before .before .before .before .before .args .kind) (c .before .before .before .width .result) (c .before .before .before .before .before .args .i) (c .before .before .before .before .before .args .n) (length (c .before .before .before .before .before .args .part .now)) (c .before .before .before .width .ensures) (c .before .before .before .before .before .pre .0) (c .before .before .before .before .before .pre .1))
-
-is-in-requires : tie.Need-is-in-requires
-is-in-requires c κs = omega (arith, Valid.in-row (c .before .before .before .before .before .args .kind) (c .before .before .before .width .result) (c .before .before .before .before .before .args .i) (c .before .before .before .before .before .args .n) (length (c .before .before .before .before .before .args .part .now)) (c .before .before .before .width .ensures) (c .before .before .before .before .before .pre .0) (c .before .before .before .before .before .pre .1), Valid.all-rows (c .before .before .before .before .before .args .kind) (c .before .before .before .width .result) (c .before .before .before .before .before .args .n) (length (c .before .before .before .before .before .args .part .now)) (c .before .before .before .width .ensures) (c .before .before .before .before .before .pre .1))
+ok-record-requires c κs = Valid.row-long (c .before .before .before .before .args .kind) (c .before .before .before .before .args .part .now) (c .before .width .result) (c .before .before .before .before .args .i) (1 + c .before .before .before .before .args .i * c .before .width .result + c .before .width .result - (1 + c .before .before .before .before .args .i * c .before .width .result)) (c .before .width .ensures) refl (c .before .before .before .before .args .n) (c .before .before .before .before .pre .0 .0) (c .before .before .before .before .pre .0 .1)
 
 returns : tie.Need-returns
-returns c = Valid.own-fits _ _ _ _ (1 + c .before .before .before .before .before .before .args .i * c .before .before .before .before .width .result + c .before .before .before .before .width .result - (1 + c .before .before .before .before .before .before .args .i * c .before .before .before .before .width .result)) (c .before .before .before .before .width .ensures) refl _ _ (c .before .before .ok-record .ensures) _ (c .is-in .ensures)
+returns c = (Valid.own-bad _ _ _ _ (1 + c .before .before .before .before .before .before .args .i * c .before .before .before .width .result + c .before .before .before .width .result - (1 + c .before .before .before .before .before .before .args .i * c .before .before .before .width .result)) (c .before .before .before .width .ensures) refl _ (c .before .ok-record .ensures) (c .if1 .taken) _, λ z. absurd (true≢false (sym z)))
+
+mul-stamp-id : tie.Need-mul-stamp-id
+mul-stamp-id c = omega (arith, Valid.in-row (c .before .before .before .before .before .before .before .args .kind) (c .before .before .before .before .width .result) (c .before .before .before .before .before .before .before .args .i) (c .before .before .before .before .before .before .before .args .n) (length (c .before .before .before .before .before .before .before .args .part .now)) (c .before .before .before .before .width .ensures) (c .before .before .before .before .before .before .before .pre .0 .0) (c .before .before .before .before .before .before .before .pre .0 .1))
+
+shared-slice-read-stamp-id : tie.Need-shared-slice-read-stamp-id
+shared-slice-read-stamp-id c = omega (arith, Valid.in-row (c .before .before .before .before .before .before .before .before .args .kind) (c .before .before .before .before .before .width .result) (c .before .before .before .before .before .before .before .before .args .i) (c .before .before .before .before .before .before .before .before .args .n) (length (c .before .before .before .before .before .before .before .before .args .part .now)) (c .before .before .before .before .before .width .ensures) (c .before .before .before .before .before .before .before .before .pre .0 .0) (c .before .before .before .before .before .before .before .before .pre .0 .1))
+
+stamp-id-requires : tie.Need-stamp-id-requires
+stamp-id-requires c κs = (Valid.id-in _ _ _ _ (1 + c .before .before .before .before .before .before .before .before .args .i * c .before .before .before .before .before .width .result + c .before .before .before .before .before .width .result - (1 + c .before .before .before .before .before .before .before .before .args .i * c .before .before .before .before .before .width .result)) (c .before .before .before .before .before .width .ensures) refl _ (c .before .before .before .ok-record .ensures) (c .before .before .if1 .left), c .before .before .before .before .before .before .before .before .pre .1 .long)
+
+same-length : tie.Need-same-length
+same-length c = search needs
+
+returns-2 : tie.Need-returns-2
+returns-2 c = (
+  Valid.own-fits _ _ _ _ (1 + c .before .before .before .before .before .before .before .before .before .before .before .args .i * c .before .before .before .before .before .before .before .before .width .result + c .before .before .before .before .before .before .before .before .width .result - (1 + c .before .before .before .before .before .before .before .before .before .before .before .args .i * c .before .before .before .before .before .before .before .before .width .result)) (c .before .before .before .before .before .before .before .before .width .ensures) refl _ (c .before .before .before .before .before .before .ok-record .ensures) (c .before .before .before .before .before .if1 .left) _ _ _ (c .before .before .before .before .before .before .before .before .before .before .before .pre .1) _ (c .before .before .stamp-id .ensures .0),
+  λ _. Valid.own-stamped _ _ _ _ (1 + c .before .before .before .before .before .before .before .before .before .before .before .args .i * c .before .before .before .before .before .before .before .before .width .result + c .before .before .before .before .before .before .before .before .width .result - (1 + c .before .before .before .before .before .before .before .before .before .before .before .args .i * c .before .before .before .before .before .before .before .before .width .result)) (c .before .before .before .before .before .before .before .before .width .ensures) refl _ (c .before .before .before .before .before .before .ok-record .ensures) (c .before .before .before .before .before .if1 .left) _ _ _ _ (c .before .before .before .before .before .before .before .before .before .before .before .pre .0 .0) (c .before .before .before .before .before .before .before .before .before .before .before .pre .1) (c .before .before .stamp-id .ensures .1),
+)
 
 pub own-fits-spec : {M : Type 1} → statement M
 own-fits-spec =
@@ -65,8 +72,9 @@ own-fits-spec =
     part-ok-record-start
     part-ok-record-end
     ok-record-requires
-    add-is-in
-    mul-is-in
-    shared-slice-read-is-in
-    is-in-requires
-    returns)
+    returns
+    mul-stamp-id
+    shared-slice-read-stamp-id
+    stamp-id-requires
+    same-length
+    returns-2)

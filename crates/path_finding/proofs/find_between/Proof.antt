@@ -6,7 +6,7 @@ use lib.ListN.{length}
 use lib.Seq.{length-take-le}
 use Rattle.fixed.proofs.Lists.{length-ups}
 use Rattle.astar.proofs.Laws.{few, x-room, y-room}
-use Rattle.path_finding.proofs.Between.{start-is, take-short, ends-below, no-start, no-end, answered}
+use Rattle.path_finding.proofs.Between.{start-is, apart-lent, take-short, ends-below, no-start, no-end, answered}
 use borrow.Author.Needs.{needs}
 use Rattle.path_finding.proofs.find_between.Statement.{statement}
 use Rattle.path_finding.proofs.find_between.Tie as tie
@@ -18,7 +18,9 @@ returns : tie.Need-returns
 returns c = no-start _ _ _ _ _ _ _ _ (c .before .before .before .before .before .before .before .before .before .before .before .before .before .pre .1 .1 .path-long) (start-is _ _ _ _ _ _ (c .before .find-node .ensures)) (sym (length-ups (c .before .before .before .before .before .before .before .before .before .before .before .before .before .args .ex .now))) (c .if1 .taken)
 
 look-up-requires : tie.Need-look-up-requires
-look-up-requires c κs = (few _ _ _ _ _ (c .before .before .before .before .before .before .before .before .before .before .before .before .before .before .pre .0), x-room _ _ _ _ _ (c .before .before .before .before .before .before .before .before .before .before .before .before .before .before .pre .0), y-room _ _ _ _ _ (c .before .before .before .before .before .before .before .before .before .before .before .before .before .before .pre .0), c .before .before .before .before .before .before .before .before .before .before .before .before .before .before .pre .1 .0 .0, c .before .before .before .before .before .before .before .before .before .before .before .before .before .before .pre .1 .0 .1)
+look-up-requires c κs =
+    let w = c .before .before .before .before .before .before .before .before .before .before .before .before .before .before .pre .0 in
+    ((few _ _ _ _ _ w, x-room _ _ _ _ _ w, y-room _ _ _ _ _ w, c .before .before .before .before .before .before .before .before .before .before .before .before .before .before .pre .1 .0 .0, c .before .before .before .before .before .before .before .before .before .before .before .before .before .before .pre .1 .0 .1), apart-lent _ _ _ _ _ w)
 
 same-length : tie.Need-same-length
 same-length c = search needs

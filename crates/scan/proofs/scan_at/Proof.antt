@@ -24,10 +24,10 @@ shared-slice-read-scan-anchor-2 : tie.Need-shared-slice-read-scan-anchor-2
 shared-slice-read-scan-anchor-2 c = search needs
 
 cast-scan-anchor : tie.Need-cast-scan-anchor
-cast-scan-anchor c = omega (arith, c .shared-slice-known4 .given (c .before .before .before .before .before .before .before .before .before .before .before .before .args .k))
+cast-scan-anchor c = omega (arith, c .shared-slice-known4 .given (c .before .before .before .before .before .before .before .before .before .before .before .before .before .before .args .k))
 
 scan-anchor-requires : tie.Need-scan-anchor-requires
-scan-anchor-requires c κs = (c .before .before .before .before .before .before .before .before .before .before .before .before .pre .0, (c .before .before .before .before .before .before .before .before .before .before .before .before .pre .1 .1 .0, omega arith))
+scan-anchor-requires c κs = (c .before .before .before .before .before .before .before .before .before .before .before .before .before .before .pre .0, (c .before .before .before .before .before .before .before .before .before .before .before .before .before .before .pre .1 .1 .0, (omega arith, c .before .before .before .before .before .before .before .before .before .before .before .before .before .before .pre .1 .1 .1 .1)))
 
 same-length : tie.Need-same-length
 same-length c = search needs
@@ -41,9 +41,13 @@ same-length-3 c = search needs
 same-length-4 : tie.Need-same-length-4
 same-length-4 c = search needs
 
+same-length-5 : tie.Need-same-length-5
+same-length-5 c = search needs
+
 returns : tie.Need-returns
 unfolding scan-at
-returns c = rw (← c .before .before .before .before .before .before .before .before .before .before .before .before .before .before .at .ensures, ← c .before .before .before .before .before .before .before .before .before .before .before .before .before .at2 .ensures) (c .before .before .before .before .before .before .scan-anchor .ensures)
+returns c =
+    (rw (← c .before .before .before .before .before .before .before .before .before .before .before .before .before .before .before .before .before .at .ensures, ← c .before .before .before .before .before .before .before .before .before .before .before .before .before .before .before .before .at2 .ensures) (c .before .before .before .before .before .before .before .before .scan-anchor .ensures .0), c .before .before .before .before .before .before .before .before .scan-anchor .ensures .1)
 
 pub scan-at-spec : {M : Type 1} → statement M
 scan-at-spec =
@@ -61,4 +65,5 @@ scan-at-spec =
     same-length-2
     same-length-3
     same-length-4
+    same-length-5
     returns)
