@@ -8,7 +8,7 @@ use lib.Dec.{eqb}
 use lib.ListN.{length, getD, take, set, length-set}
 use lib.Seq.{take-set-le}
 use Rattle.fixed.specs.Up.{BIAS}
-use Rattle.graph.specs.Zeros.{closed}
+use Rattle.zeros.specs.Zeros.{closed}
 use Rattle.nodes.specs.Graph.{Graph}
 use Rattle.vertex.specs.declared.Junction.{Junction}
 use Rattle.vertex.specs.declared.VertexKind.{VertexKind}

@@ -9,17 +9,16 @@ use native.Mathlib.Decide.{decLt}
 use lib.Dec.{eqb, ltb}
 use lib.ListN.{length, getD, take, replicate}
 use borrow.Author.Tests.{eq-eqb, ne-eqb, lt-ltb, le-ltb}
-use Rattle.graph.specs.Zeros.{closed}
 use Rattle.nodes.specs.Graph.{Graph}
 use Rattle.path_finding.specs.Places.{known}
 use Rattle.wire.specs.Wires.{Vertices, vertices, Ends, ends as endsOf, Wires, wires}
 use Rattle.routing.specs.Branches.{Tried, tried}
 use Rattle.routing.specs.Roots.{slantOf, rootTo as pairTo, rootPair}
 use Rattle.routing.proofs.Pairs.{square-least, first-in, second-in}
-use Rattle.net.specs.Lent.{Space, Page, Bounds}
+use Rattle.net.specs.Lent.{Page}
 use Rattle.net.specs.Nets.{Branched, branched, rootWire, branchAt, branchesTo, Net, net, refused, kept, END-WORDS, noEnds, routeNet, connectNet}
 use Rattle.net.proofs.Branching.{Bounded, bounds-now, wire-bounds}
-use Rattle.connect.specs.Turns.{turnAt, turnsTo}
+use Rattle.connect.specs.Turns.{turnAt, turnsTo, outcome}
 use Rattle.connect.proofs.Keeping.{net-still, wiped}
 
 -- ---- one turn
@@ -74,11 +73,11 @@ module _ (G : Graph) (px py : List ℕ) (a b : ℕ) where
       (rw q h, rw q m)
 
 pub turns-all : (G : Graph) (px py : List ℕ) (p : ℕ) (P : Vertices) (E R : List ℕ) (j : ℕ) (X : Branched) → E ≡ replicate END-WORDS 0 → p ≡ rootPair px py (length px)
-    → X ≡ turnsTo G px py (p / length px) (p % length px) (length px + 1) (branched 0 (wires P (endsOf E 0)) R j) → X ≡ routeNet G px py P R j
+    → X ≡ turnsTo G px py (p / length px) (p % length px) (length px + 1) (branched 0 (wires P (endsOf E 0)) R j) → outcome X ≡ outcome (routeNet G px py P R j)
 unfolding routeNet noEnds
 turns-all G px py p P E R j X e q x =
     let s : X ≡ branchesTo G px py (p / length px) (p % length px) (length px) (after G px py (p / length px) (p % length px) (branched 0 (wires P (endsOf E 0)) R j)) = x ∙ ap (λ (i : ℕ). turnsTo G px py (p / length px) (p % length px) i (branched 0 (wires P (endsOf E 0)) R j)) (more (length px)) ∙ turns-are G px py (p / length px) (p % length px) (length px) (branched 0 (wires P (endsOf E 0)) R j) in
-    rw (← q, ← e) s
+    rw (← q, ← e) (ap (λ (S : Branched). outcome S) s)
   where
     more : (n : ℕ) → n + 1 ≡ suc n
     more n = omega arith
@@ -99,13 +98,6 @@ unfolding rootPair
 pair-in xs ys n p h e =
     let l : p < n * n = rw e (pair-to xs ys n (n * n) h (omega arith)) in
     (first-in n p (omega arith) l, second-in n p (omega arith))
-
-pub zeroed : (E E′ : List ℕ) → E′ ≡ closed 0 0 E → length E ≡ END-WORDS → E′ ≡ replicate END-WORDS 0
-unfolding closed
-zeroed E E′ e h = e ∙ ap (λ (n : ℕ). replicate n 0) (by (length E) h)
-  where
-    by : (n : ℕ) → n ≡ END-WORDS → n - 0 ≡ END-WORDS
-    by n q = omega arith
 
 -- ---- the number before anything is routed
 
@@ -151,25 +143,25 @@ module _ (G : Graph) (px py : List ℕ) (P : Vertices) (R : List ℕ) (j r : ℕ
       by false true q = refl
       by false false q = absurd (omega arith)
 
-  module _ (z : r ≡ 0) (S : Branched) (s : S ≡ routeNet G px py P R j) where
-    pub connect-done : S .number ≡ 0 → net 0 (S .wires .page) (S .joins) (S .j) ≡ connectNet G px py P R j
-    unfolding kept
-    connect-done h = by ∙ on z
-      where
-        by : net 0 (S .wires .page) (S .joins) (S .j) ≡ kept (routeNet G px py P R j) P R j
-        by = rw (← s, eq-eqb _ _ h)
+  module _ (z : r ≡ 0) (S : Net) (s : S ≡ outcome (routeNet G px py P R j)) where
+    same-number : S .number ≡ routeNet G px py P R j .number
+    same-number = ap (λ (N : Net). N .number) s
 
-    pub connect-refused : (X : Net) → (S .number ≡ 0 → ⊥) → X ≡ refused (S .number) (vertices (S .wires .page .x) (S .wires .page .y) (S .wires .page .kinds) (P .n)) (S .joins) j → X ≡ connectNet G px py P R j
+    pub connect-done : S .number ≡ 0 → S ≡ connectNet G px py P R j
     unfolding kept
-    connect-refused X h x = by ∙ on z
+    connect-done h = s ∙ by (sym same-number ∙ h) ∙ on z
       where
-        by : X ≡ kept (routeNet G px py P R j) P R j
-        by = rw (← s, ne-eqb _ _ h) (x ∙ wiped (S .number) P R j S (rw s (net-still P R j G px py)))
+        by : routeNet G px py P R j .number ≡ 0 → outcome (routeNet G px py P R j) ≡ kept (routeNet G px py P R j) P R j
+        by q = rw (eq-eqb _ _ q, q)
+
+    pub connect-refused : (X : Net) → (S .number ≡ 0 → ⊥) → X ≡ refused (S .number) (vertices (S .page .x) (S .page .y) (S .page .kinds) (P .n)) (S .joins) j → X ≡ connectNet G px py P R j
+    unfolding kept
+    connect-refused X h x = by (λ q. h (same-number ∙ q)) ∙ on z
+      where
+        by : (routeNet G px py P R j .number ≡ 0 → ⊥) → X ≡ kept (routeNet G px py P R j) P R j
+        by w = rw (ne-eqb _ _ w) ((rw s at x) ∙ wiped (routeNet G px py P R j .number) P R j (routeNet G px py P R j) (net-still P R j G px py))
 
 -- ---- lengths that calls keep
 
-pub space-kept : {lx₁ ly₁ kinds₁ ways₁ nodes₁ marked₁ kept₁ g₁ pred₁ queue₁ blocks₁ estimates₁ path₁ lx₂ ly₂ kinds₂ ways₂ nodes₂ marked₂ kept₂ g₂ pred₂ queue₂ blocks₂ estimates₂ path₂ : ℕ} → lx₂ ≡ lx₁ → ly₂ ≡ ly₁ → kinds₂ ≡ kinds₁ → ways₂ ≡ ways₁ → nodes₂ ≡ nodes₁ → marked₂ ≡ marked₁ → kept₂ ≡ kept₁ → g₂ ≡ g₁ → pred₂ ≡ pred₁ → queue₂ ≡ queue₁ → blocks₂ ≡ blocks₁ → estimates₂ ≡ estimates₁ → path₂ ≡ path₁ → Space lx₁ ly₁ kinds₁ ways₁ nodes₁ marked₁ kept₁ g₁ pred₁ queue₁ blocks₁ estimates₁ path₁ → Space lx₂ ly₂ kinds₂ ways₂ nodes₂ marked₂ kept₂ g₂ pred₂ queue₂ blocks₂ estimates₂ path₂
-space-kept e0 e1 e2 e3 e4 e5 e6 e7 e8 e9 e10 e11 e12 S = rw (e0, e1, e2, e3, e4, e5, e6, e7, e8, e9, e10, e11, e12) S
-
-pub page-kept : {x₁ y₁ letters₁ joins₁ rows₁ ex₁ ey₁ x₂ y₂ letters₂ joins₂ rows₂ ex₂ ey₂ : ℕ} → x₂ ≡ x₁ → y₂ ≡ y₁ → letters₂ ≡ letters₁ → joins₂ ≡ joins₁ → rows₂ ≡ rows₁ → ex₂ ≡ ex₁ → ey₂ ≡ ey₁ → Page x₁ y₁ letters₁ joins₁ rows₁ ex₁ ey₁ → Page x₂ y₂ letters₂ joins₂ rows₂ ex₂ ey₂
-page-kept e0 e1 e2 e3 e4 e5 e6 S = rw (e0, e1, e2, e3, e4, e5, e6) S
+pub page-kept : {x₁ y₁ letters₁ rows₁ x₂ y₂ letters₂ rows₂ : ℕ} → x₂ ≡ x₁ → y₂ ≡ y₁ → letters₂ ≡ letters₁ → rows₂ ≡ rows₁ → Page x₁ y₁ letters₁ rows₁ → Page x₂ y₂ letters₂ rows₂
+page-kept e0 e1 e2 e3 S = rw (e0, e1, e2, e3) S

@@ -10,8 +10,8 @@ ghost use Rattle.astar.specs.Reached.{Ready};
 ghost use Rattle.path_finding.specs.Places.{known};
 ghost use Rattle.wire.specs.Wires.{vertices, ends as endsOf, wires};
 ghost use Rattle.net.specs.Nets.{branched, routeNet, net, connectNet};
-ghost use Rattle.net.specs.Lent.{Space, Page, Bounds};
-ghost use Rattle.connect.specs.Turns.{turnAt, turnsTo};
+ghost use Rattle.net.specs.Lent.{Page, Bounds};
+ghost use Rattle.connect.specs.Turns.{turnAt, turnsTo, outcome};
 use net::Done;
 use net::Made;
 
@@ -36,27 +36,11 @@ fn turn_at(
     m: usize,
     joins: &mut [u32],
     j: usize,
-    ex: &mut [i32],
-    ey: &mut [i32],
-    lx: &mut [i32],
-    ly: &mut [i32],
-    kinds: &mut [u8],
-    ways: &mut [u8],
-    nodes: &mut [u32],
-    marked: &mut [u8],
-    kept: &mut [u32],
-    g: &mut [u64],
-    pred: &mut [u32],
-    queue: &mut [u64],
-    blocks: &mut [u32],
-    estimates: &mut [u64],
-    path: &mut [u32],
 ) -> Made
     requires { ⌜ (0 < n → Ready (graph n (now xs) (now ys) (now links) (now marks))) ⌝ }
-    requires { ⌜ Page (length (now x)) (length (now y)) (length (now letters)) (length (now joins)) (length (now rows)) (length (now ex)) (length (now ey)) ⌝ }
-    requires { ⌜ (a < length (now px)) × (b < length (now px)) × (length (now px) ≤ 256) × (length (now py) ≡ length (now px)) ⌝ }
+    requires { ⌜ Page (length (now x)) (length (now y)) (length (now letters)) (length (now rows)) ⌝ }
+    requires { ⌜ (a < length (now px)) × (b < length (now px)) × (length (now px) ≤ 256) × (length (now py) ≡ length (now px)) × (768 ≤ length (now joins)) ⌝ }
     requires { ⌜ (k < length (now px) + 1) × (k ≡ 0 → (count ≤ 512) × (m ≡ 0)) × (0 < k → number ≡ 0 → Bounds count m j) ⌝ }
-    requires { ⌜ Space (length (now lx)) (length (now ly)) (length (now kinds)) (length (now ways)) (length (now nodes)) (length (now marked)) (length (now kept)) (length (now g)) (length (now pred)) (length (now queue)) (length (now blocks)) (length (now estimates)) (length (now path)) ⌝ }
     ensures { λ r. ⌜ branched (r .number) (wires (vertices (ups (now (x .exit))) (ups (now (y .exit))) (now (letters .exit)) (r .n)) (endsOf (now (rows .exit)) (r .m))) (now (joins .exit)) (r .j) ≡ turnAt (graph n (now (xs .entry)) (now (ys .entry)) (now (links .entry)) (now (marks .entry))) (now (px .entry)) (now (py .entry)) a b k (branched number (wires (vertices (ups (now (x .entry))) (ups (now (y .entry))) (now (letters .entry)) count) (endsOf (now (rows .entry)) m)) (now (joins .entry)) j) ⌝ }
 {
     if k == 0 {
@@ -75,22 +59,6 @@ fn turn_at(
             letters,
             count,
             rows,
-            joins,
-            ex,
-            ey,
-            lx,
-            ly,
-            kinds,
-            ways,
-            nodes,
-            marked,
-            kept,
-            g,
-            pred,
-            queue,
-            blocks,
-            estimates,
-            path,
         );
         return Made {
             number: t.number,
@@ -119,21 +87,6 @@ fn turn_at(
         m,
         joins,
         j,
-        ex,
-        ey,
-        lx,
-        ly,
-        kinds,
-        ways,
-        nodes,
-        marked,
-        kept,
-        g,
-        pred,
-        queue,
-        blocks,
-        estimates,
-        path,
     )
 }
 
@@ -155,26 +108,10 @@ fn turns(
     rows: &mut [u32],
     joins: &mut [u32],
     j: usize,
-    ex: &mut [i32],
-    ey: &mut [i32],
-    lx: &mut [i32],
-    ly: &mut [i32],
-    kinds: &mut [u8],
-    ways: &mut [u8],
-    nodes: &mut [u32],
-    marked: &mut [u8],
-    kept: &mut [u32],
-    g: &mut [u64],
-    pred: &mut [u32],
-    queue: &mut [u64],
-    blocks: &mut [u32],
-    estimates: &mut [u64],
-    path: &mut [u32],
 ) -> Made
     requires { ⌜ (0 < n → Ready (graph n (now xs) (now ys) (now links) (now marks))) ⌝ }
-    requires { ⌜ Page (length (now x)) (length (now y)) (length (now letters)) (length (now joins)) (length (now rows)) (length (now ex)) (length (now ey)) ⌝ }
-    requires { ⌜ (a < length (now px)) × (b < length (now px)) × (length (now px) ≤ 256) × (length (now py) ≡ length (now px)) × (count ≤ 512) × (2 * j ≤ count) ⌝ }
-    requires { ⌜ Space (length (now lx)) (length (now ly)) (length (now kinds)) (length (now ways)) (length (now nodes)) (length (now marked)) (length (now kept)) (length (now g)) (length (now pred)) (length (now queue)) (length (now blocks)) (length (now estimates)) (length (now path)) ⌝ }
+    requires { ⌜ Page (length (now x)) (length (now y)) (length (now letters)) (length (now rows)) ⌝ }
+    requires { ⌜ (a < length (now px)) × (b < length (now px)) × (length (now px) ≤ 256) × (length (now py) ≡ length (now px)) × (count ≤ 512) × (2 * j ≤ count) × (768 ≤ length (now joins)) ⌝ }
     ensures { λ r. ⌜ branched (r .number) (wires (vertices (ups (now (x .exit))) (ups (now (y .exit))) (now (letters .exit)) (r .n)) (endsOf (now (rows .exit)) (r .m))) (now (joins .exit)) (r .j) ≡ turnsTo (graph n (now (xs .entry)) (now (ys .entry)) (now (links .entry)) (now (marks .entry))) (now (px .entry)) (now (py .entry)) a b (length (now (px .entry)) + 1) (branched 0 (wires (vertices (ups (now (x .entry))) (ups (now (y .entry))) (now (letters .entry)) count) (endsOf (now (rows .entry)) 0)) (now (joins .entry)) j) ⌝ }
 {
     let mut num: u32 = 0;
@@ -203,21 +140,6 @@ fn turns(
             m,
             joins,
             joint,
-            ex,
-            ey,
-            lx,
-            ly,
-            kinds,
-            ways,
-            nodes,
-            marked,
-            kept,
-            g,
-            pred,
-            queue,
-            blocks,
-            estimates,
-            path,
         );
         num = r.number;
         total = r.n;
@@ -246,36 +168,19 @@ fn route_net(
     y: &mut [i32],
     letters: &mut [u8],
     count: usize,
-    rows: &mut [u32],
     joins: &mut [u32],
     j: usize,
-    ex: &mut [i32],
-    ey: &mut [i32],
-    lx: &mut [i32],
-    ly: &mut [i32],
-    kinds: &mut [u8],
-    ways: &mut [u8],
-    nodes: &mut [u32],
-    marked: &mut [u8],
-    kept: &mut [u32],
-    g: &mut [u64],
-    pred: &mut [u32],
-    queue: &mut [u64],
-    blocks: &mut [u32],
-    estimates: &mut [u64],
-    path: &mut [u32],
-) -> Made
+) -> Done
     requires { ⌜ (0 < n → Ready (graph n (now xs) (now ys) (now links) (now marks))) ⌝ }
-    requires { ⌜ Page (length (now x)) (length (now y)) (length (now letters)) (length (now joins)) (length (now rows)) (length (now ex)) (length (now ey)) ⌝ }
-    requires { ⌜ (2 ≤ length (now px)) × (length (now px) ≤ 256) × (length (now py) ≡ length (now px)) × (count ≤ 512) × (2 * j ≤ count) ⌝ }
-    requires { ⌜ Space (length (now lx)) (length (now ly)) (length (now kinds)) (length (now ways)) (length (now nodes)) (length (now marked)) (length (now kept)) (length (now g)) (length (now pred)) (length (now queue)) (length (now blocks)) (length (now estimates)) (length (now path)) ⌝ }
-    ensures { λ r. ⌜ branched (r .number) (wires (vertices (ups (now (x .exit))) (ups (now (y .exit))) (now (letters .exit)) (r .n)) (endsOf (now (rows .exit)) (r .m))) (now (joins .exit)) (r .j) ≡ routeNet (graph n (now (xs .entry)) (now (ys .entry)) (now (links .entry)) (now (marks .entry))) (now (px .entry)) (now (py .entry)) (vertices (ups (now (x .entry))) (ups (now (y .entry))) (now (letters .entry)) count) (now (joins .entry)) j ⌝ }
+    requires { ⌜ (2 ≤ length (now px)) × (length (now px) ≤ 256) × (length (now py) ≡ length (now px)) ⌝ }
+    requires { ⌜ (512 ≤ length (now x)) × (512 ≤ length (now y)) × (512 ≤ length (now letters)) × (768 ≤ length (now joins)) × (count ≤ 512) × (2 * j ≤ count) ⌝ }
+    ensures { λ r. ⌜ net (r .number) (vertices (ups (now (x .exit))) (ups (now (y .exit))) (now (letters .exit)) (r .n)) (now (joins .exit)) (r .j) ≡ outcome (routeNet (graph n (now (xs .entry)) (now (ys .entry)) (now (links .entry)) (now (marks .entry))) (now (px .entry)) (now (py .entry)) (vertices (ups (now (x .entry))) (ups (now (y .entry))) (now (letters .entry)) count) (now (joins .entry)) j) ⌝ }
 {
-    graph::zero_words(rows, 0);
+    let mut rows: [u32; 16384] = [0; 16384];
     let p = routing::pick_root_path(px, py);
     let a = p / px.len();
     let b = p % px.len();
-    turns(
+    let t = turns(
         xs,
         ys,
         links,
@@ -289,25 +194,15 @@ fn route_net(
         y,
         letters,
         count,
-        rows,
+        &mut rows,
         joins,
         j,
-        ex,
-        ey,
-        lx,
-        ly,
-        kinds,
-        ways,
-        nodes,
-        marked,
-        kept,
-        g,
-        pred,
-        queue,
-        blocks,
-        estimates,
-        path,
-    )
+    );
+    Done {
+        number: t.number,
+        n: t.n,
+        j: t.j,
+    }
 }
 
 // 12 if the net has under two endpoints, 13 if one of them is no node, else 0.
@@ -337,29 +232,12 @@ pub fn connect_net(
     y: &mut [i32],
     letters: &mut [u8],
     count: usize,
-    rows: &mut [u32],
     joins: &mut [u32],
     j: usize,
-    ex: &mut [i32],
-    ey: &mut [i32],
-    lx: &mut [i32],
-    ly: &mut [i32],
-    kinds: &mut [u8],
-    ways: &mut [u8],
-    nodes: &mut [u32],
-    marked: &mut [u8],
-    kept: &mut [u32],
-    g: &mut [u64],
-    pred: &mut [u32],
-    queue: &mut [u64],
-    blocks: &mut [u32],
-    estimates: &mut [u64],
-    path: &mut [u32],
 ) -> Done
     requires { ⌜ (0 < n → Ready (graph n (now xs) (now ys) (now links) (now marks))) ⌝ }
-    requires { ⌜ Page (length (now x)) (length (now y)) (length (now letters)) (length (now joins)) (length (now rows)) (length (now ex)) (length (now ey)) ⌝ }
-    requires { ⌜ (length (now px) ≤ 256) × (length (now py) ≡ length (now px)) × (count ≤ 512) × (2 * j ≤ count) ⌝ }
-    requires { ⌜ Space (length (now lx)) (length (now ly)) (length (now kinds)) (length (now ways)) (length (now nodes)) (length (now marked)) (length (now kept)) (length (now g)) (length (now pred)) (length (now queue)) (length (now blocks)) (length (now estimates)) (length (now path)) ⌝ }
+    requires { ⌜ (length (now px) ≤ 256) × (length (now py) ≡ length (now px)) ⌝ }
+    requires { ⌜ (512 ≤ length (now x)) × (512 ≤ length (now y)) × (512 ≤ length (now letters)) × (768 ≤ length (now joins)) × (count ≤ 512) × (2 * j ≤ count) ⌝ }
     ensures { λ r. ⌜ net (r .number) (vertices (ups (now (x .exit))) (ups (now (y .exit))) (now (letters .exit)) (r .n)) (now (joins .exit)) (r .j) ≡ connectNet (graph n (now (xs .entry)) (now (ys .entry)) (now (links .entry)) (now (marks .entry))) (now (px .entry)) (now (py .entry)) (vertices (ups (now (x .entry))) (ups (now (y .entry))) (now (letters .entry)) count) (now (joins .entry)) j ⌝ }
 {
     let number = prior(xs, ys, n, px, py);
@@ -378,31 +256,11 @@ pub fn connect_net(
         y,
         letters,
         count,
-        rows,
         joins,
         j,
-        ex,
-        ey,
-        lx,
-        ly,
-        kinds,
-        ways,
-        nodes,
-        marked,
-        kept,
-        g,
-        pred,
-        queue,
-        blocks,
-        estimates,
-        path,
     );
     if r.number != 0 {
         return net::refuse(r.number, x, y, letters, count, joins, j);
     }
-    Done {
-        number: 0,
-        n: r.n,
-        j: r.j,
-    }
+    r
 }

@@ -17,7 +17,7 @@ use Rattle.path_finding.specs.Line.{table, place-at, kind-at, direction-at, Wri
 use Rattle.search.specs.Searched.{Ended}
 use Rattle.page_graph.specs.Page.{crowded}
 use Rattle.page_graph.specs.Lent.{Asked}
-use Rattle.page_search.specs.Page.{searchNumber as pageNumber, searchLine as pageLine}
+use Rattle.page_search.specs.Page.{PageSearched, searchNumber as pageNumber, searchLine as pageLine}
 use Rattle.page_search.specs.Exists.{Sound, PageTold}
 use Rattle.page_search.proofs.Theorem.{page-searches}
 use Rattle.desk.specs.Sizes.{DESK}
@@ -25,9 +25,10 @@ use Rattle.desk.specs.Book.{Lists, Book, okLists, okPlace, valid, answer}
 use Rattle.desk.specs.Desk.{bookOf, sized}
 use Rattle.desk.proofs.Keeps.{lists-ok}
 use Rattle.select.specs.Page.{flat, pageOf}
-use Rattle.select.proofs.Asked.{asked}
+use Rattle.select.proofs.Asked.{asked, page-is}
+use Rattle.select.proofs.Lent.{desk-valid, desk-invalid}
 use Rattle.desk_search.specs.Query.{Query, ENDS, query, okEnds, okQuery, isPruned}
-use Rattle.desk_search.specs.Search.{Outputs, PageRan, outputs, isLent, graphOf, searchNumber, searchLine, written, left, zeros, tested, says, shows, deskNumber, deskOutputs}
+use Rattle.desk_search.specs.Search.{Outputs, outputs, isLent, graphOf, searchNumber, searchLine, written, left, zeros, tested, says, shows, deskNumber, deskOutputs}
 use Rattle.desk_search.proofs.Exists.{sound}
 use Rattle.desk_search.proofs.Outputs.{no-line}
 
@@ -67,26 +68,6 @@ module _ (b : Book) (q : Query) (o : Outputs) where
   unfolding tested answer
   passed v e r er = rw (v, e) er
 
--- the desk's test
-module _ (ws : List ℕ) (n : ℕ) (long : DESK ≤ length ws) (is : n ≡ sized ws (answer (valid (bookOf ws)) true 0)) where
-  by : (v : Bool) → valid (bookOf ws) ≡ v → n ≡ cond (v && true) 0 2
-  unfolding sized answer
-  by v e = is ∙ rw (le-leb DESK (length ws) long, e)
-
-  pub desk-valid : n ≡ 0 → valid (bookOf ws) ≡ true
-  desk-valid z = go (valid (bookOf ws)) refl
-    where
-      go : (v : Bool) → valid (bookOf ws) ≡ v → v ≡ true
-      go true e = refl
-      go false e = absurd (omega (arith, by false e))
-
-  pub desk-invalid : (n ≡ 0 → ⊥) → valid (bookOf ws) ≡ false
-  desk-invalid z = go (valid (bookOf ws)) refl
-    where
-      go : (v : Bool) → valid (bookOf ws) ≡ v → v ≡ false
-      go true e = absurd (z (by true e))
-      go false e = refl
-
 -- ---- without 0 there is no line
 no-nodes : (l : Lists) → okLists l ≡ true → (q : Query) → (searchNumber l q ≡ 0 → ⊥) → searchLine l q ≡ []
 unfolding searchNumber searchLine
@@ -104,24 +85,21 @@ module _ (l : Lists) (ok : okLists l ≡ true) (bs ps ns es : List ℕ) (nb np n
   abbrev lent : Records
   lent = records bs nb ps np ns nn es ne
 
-  page-is : lent ≡ pageOf l
-  page-is = rw (eb, ib, ep, ip, en, in-is, ee, ie)
+  the-page : lent ≡ pageOf l
+  the-page = page-is l bs ps ns es nb np nn ne eb ib ep ip en in-is ee ie
 
   pub page-asked : Asked lent
-  page-asked = rw page-is (asked l ok)
+  page-asked = rw the-page (asked l ok)
 
-  pub page-sound : Sound lent
-  page-sound = rw page-is (sound l ok)
-
-  module _ (q : Query) (pruned : Bool) (num : ℕ) (o : Outputs) (xs ys kinds dirs : List ℕ) (pruned-is : pruned ≡ isPruned q)
-      (ran : PageRan lent pruned (q .x) (q .y) (q .end-x) (q .end-y) num xs ys kinds dirs) where
+  module _ (q : Query) (pruned : Bool) (num nodes : ℕ) (o : Outputs) (xs ys kinds dirs : List ℕ) (pruned-is : pruned ≡ isPruned q)
+      (ran : PageSearched lent pruned (q .x) (q .y) (q .end-x) (q .end-y) num nodes xs ys kinds dirs) where
     pub page-number : num ≡ searchNumber l q
     unfolding searchNumber
-    page-number = ran .searched .number-is ∙ rw (page-is, pruned-is)
+    page-number = ran .number-is ∙ rw (the-page, pruned-is)
 
     page-written : Written (graphOf l q .xs) (graphOf l q .ys) (graphOf l q .links) (searchLine l q) xs ys kinds dirs
     unfolding searchLine graphOf
-    page-written = rw (page-is, pruned-is) at (ran .searched .written)
+    page-written = rw (the-page, pruned-is) at (ran .written)
 
     module _ (a : length xs ≡ length (o .xs)) (b : length ys ≡ length (o .ys)) (c : length kinds ≡ length (o .kinds)) (d : length dirs ≡ length (o .dirs)) where
       found-line : _≡_ {A = Outputs} (record { xs = xs; ys = ys; kinds = kinds; dirs = dirs }) (written (graphOf l q) (searchLine l q) o)
@@ -197,18 +175,18 @@ module _ (ws : List ℕ) (prune x y : ℕ) (ex ey lx ly : List ℤ) (kinds dirs 
   module _ (v : valid (bookOf ws) ≡ true) (bs ps ns es : List ℕ) (nb np nn ne : ℕ) (eb : bs ≡ flat (bookOf ws .lists .boxes)) (ib : nb ≡ length (bookOf ws .lists .boxes))
       (ep : ps ≡ flat (bookOf ws .lists .ports)) (ip : np ≡ length (bookOf ws .lists .ports)) (en : ns ≡ flat (bookOf ws .lists .nets)) (in-is : nn ≡ length (bookOf ws .lists .nets))
       (ee : es ≡ flat (bookOf ws .lists .ends)) (ie : ne ≡ length (bookOf ws .lists .ends)) where
-    pub valid-asks : okQuery Q ≡ true → Asked (records bs nb ps np ns nn es ne) × (Sound (records bs nb ps np ns nn es ne) × Ended ex ey)
+    pub valid-asks : okQuery Q ≡ true → Asked (records bs nb ps np ns nn es ne) × Ended ex ey
     valid-asks e =
         let ok = lists-ok (bookOf ws) v in
-        (page-asked (bookOf ws .lists) ok bs ps ns es nb np nn ne eb ib ep ip en in-is ee ie, (page-sound (bookOf ws .lists) ok bs ps ns es nb np nn ne eb ib ep ip en in-is ee ie, query-ends prune x y ex ey e))
+        (page-asked (bookOf ws .lists) ok bs ps ns es nb np nn ne eb ib ep ip en in-is ee ie, query-ends prune x y ex ey e)
 
-    pub valid-on : (r : ℕ) (lx′ ly′ : List ℤ) (kinds′ dirs′ : List ℕ) → length lx′ ≡ length lx → length ly′ ≡ length ly → length kinds′ ≡ length kinds → length dirs′ ≡ length dirs
-        → PageRan (records bs nb ps np ns nn es ne) (eqb prune 1) x y (ups ex) (ups ey) r (ups lx′) (ups ly′) kinds′ dirs′
+    pub valid-on : (r nodes : ℕ) (lx′ ly′ : List ℤ) (kinds′ dirs′ : List ℕ) → length lx′ ≡ length lx → length ly′ ≡ length ly → length kinds′ ≡ length kinds → length dirs′ ≡ length dirs
+        → PageSearched (records bs nb ps np ns nn es ne) (eqb prune 1) x y (ups ex) (ups ey) r nodes (ups lx′) (ups ly′) kinds′ dirs′
         → (r ≡ searchNumber (bookOf ws .lists) Q) × (outputs lx′ ly′ kinds′ dirs′ ≡ left r (bookOf ws .lists) Q O)
-    valid-on r lx′ ly′ kinds′ dirs′ a b c d ran =
+    valid-on r nodes lx′ ly′ kinds′ dirs′ a b c d ran =
         let ok = lists-ok (bookOf ws) v in (
-          page-number (bookOf ws .lists) ok bs ps ns es nb np nn ne eb ib ep ip en in-is ee ie Q (eqb prune 1) r O (ups lx′) (ups ly′) kinds′ dirs′ refl ran,
-          page-left (bookOf ws .lists) ok bs ps ns es nb np nn ne eb ib ep ip en in-is ee ie Q (eqb prune 1) r O (ups lx′) (ups ly′) kinds′ dirs′ refl ran (length-ups lx′ ∙ a ∙ sym (length-ups lx)) (length-ups ly′ ∙ b ∙ sym (length-ups ly)) c d,
+          page-number (bookOf ws .lists) ok bs ps ns es nb np nn ne eb ib ep ip en in-is ee ie Q (eqb prune 1) r nodes O (ups lx′) (ups ly′) kinds′ dirs′ refl ran,
+          page-left (bookOf ws .lists) ok bs ps ns es nb np nn ne eb ib ep ip en in-is ee ie Q (eqb prune 1) r nodes O (ups lx′) (ups ly′) kinds′ dirs′ refl ran (length-ups lx′ ∙ a ∙ sym (length-ups lx)) (length-ups ly′ ∙ b ∙ sym (length-ups ly)) c d,
         )
 
 pub as-asked : (ws : List ℕ) (o p : Outputs) (r prune u v : ℕ) (x y : ℤ) (ex ey : List ℤ) → u ≡ up x → v ≡ up y

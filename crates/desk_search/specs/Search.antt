@@ -7,12 +7,10 @@ use lib.Dec.{eqb, leb}
 use lib.IntN.{ℤ}
 use lib.ListN.{length, replicate}
 use Rattle.fixed.specs.Up.{BIAS, ups}
-use Rattle.anchors.specs.Records.{Records}
 use Rattle.nodes.specs.Graph.{Graph, NODES}
 use Rattle.path_finding.specs.Line.{table, place-at, kind-at, direction-at}
 use Rattle.page_graph.specs.Page.{page-graph}
-use Rattle.page_search.specs.Page.{PageSearched, searchNumber as pageNumber, searchLine as pageLine}
-use Rattle.page_search.specs.Lent.{Tried}
+use Rattle.page_search.specs.Page.{searchNumber as pageNumber, searchLine as pageLine}
 use Rattle.desk.specs.Sizes.{DESK}
 use Rattle.desk.specs.Book.{Lists, Book, valid, answer}
 use Rattle.desk.specs.Desk.{bookOf}
@@ -90,12 +88,3 @@ deskNumber ws o q = says (length ws) o q (bookOf ws)
 
 abbrev pub deskOutputs : List ℕ → Outputs → Query → Outputs
 deskOutputs ws o q = shows (length ws) o q (bookOf ws)
-
--- ---- the functions below: on a graph that was handed back with the count n, and on a page's records
-pub record Ran (n : ℕ) (G : Graph) (x y : ℕ) (exs eys : List ℕ) (num : ℕ) (lx ly kinds dirs : List ℕ) : Type 0 where
-  pub nodes : ℕ
-  pub tried : Tried n G x y exs eys num nodes lx ly kinds dirs
-
-pub record PageRan (r : Records) (pruned : Bool) (x y : ℕ) (exs eys : List ℕ) (num : ℕ) (lx ly kinds dirs : List ℕ) : Type 0 where
-  pub nodes : ℕ
-  pub searched : PageSearched r pruned x y exs eys num nodes lx ly kinds dirs

@@ -8,7 +8,7 @@ use Rattle.scan.specs.Walk.{along as scan-along, find-on, place-on, next, step,
 use Rattle.scan.specs.Scan.{fold, has, toward as scan-toward, scans, scan-anchor, mark, place-anchor, scan-at, build-nodes, build}
 use Rattle.prune.specs.Prune.{only, straight as prune-straight, moved-links, moved, back, backs, relink, shrink, drop-node, join, prune-by, prune-at, prune-from, prune}
 use Rattle.graph.specs.Build.{whole, made}
-use Rattle.graph.specs.Zeros.{closed}
+use Rattle.zeros.specs.Zeros.{closed}
 use Rattle.queue.specs.Queue.{least}
 use Rattle.astar.specs.Search.{TURNS, MOVES, distance, nearest, holds, toward, arrives, run-length, straight-run, penalty-at, cost, replace, relax, relax-to, expand, run as turns, begin, chain, line-of}
 use Rattle.path_finding.specs.Line.{has-link, admit, goals, line, table, place-at, kind-at, bit, direction-at}

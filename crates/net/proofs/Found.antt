@@ -8,7 +8,7 @@ use native.Mathlib.Decide.{decLt}
 use lib.Dec.{ltb}
 use lib.IntN.{ℤ}
 use lib.ListN.{length, take, length-take, set}
-use lib.Seq.{take-all, take-append-le, take-suc-set, length-take-le}
+use lib.Seq.{take-all, take-append-le, length-take-le}
 use borrow.Author.Tests.{ltb-true}
 use Rattle.fixed.specs.Up.{ups}
 use Rattle.fixed.proofs.Lists.{length-ups, ups-take}
@@ -20,11 +20,10 @@ use Rattle.path_finding.specs.Places.{start-of, ends-of, ends-known, line-betwe
 use Rattle.path_finding.proofs.Lines.{table-length}
 use Rattle.path_finding.proofs.Theorems.{right}
 use Rattle.wire.specs.Lines.{Line, line}
-use Rattle.search.specs.Searched.{Searched, Scratch}
+use Rattle.search.specs.Searched.{Searched}
 use Rattle.vertex.specs.declared.Junction.{Junction}
 use Rattle.wire.specs.Wires.{ends as endsOf, Wires}
 use Rattle.routing.specs.Branches.{Tried, Columns, routeWire, routeBranch, joinBranch}
-use Rattle.net.specs.Lent.{Space}
 use Rattle.net.specs.Nets.{lineOf, foundLine, endWord, branchLine}
 
 pub take-table : (f : ℕ → ℕ) (m n : ℕ) → m ≤ n → take m (table f n) ≡ table f m
@@ -75,9 +74,14 @@ found-is G x y exs eys r lx ly kinds ways e W a b c d =
 
 -- ---- the ends that are lent
 
--- one end: its place is put first
-pub one-end : (l l′ : List ℤ) (v : ℕ) → 1 ≤ length l → ups l′ ≡ set (ups l) 0 v → ups (take 1 l′) ≡ v ∷ []
-one-end l l′ v h e = ups-take 1 l′ ∙ rw e (take-suc-set (ups l) 0 v (omega (arith, length-ups l)))
+-- one end: its place is put into a list of one entry
+pub one-place : (l l′ : List ℤ) (v : ℕ) → length l ≡ 1 → ups l′ ≡ set (ups l) 0 v → ups l′ ≡ v ∷ []
+one-place l l′ v h e = e ∙ by (ups l) (length-ups l ∙ h)
+  where
+    by : (m : List ℕ) → length m ≡ 1 → set m 0 v ≡ v ∷ []
+    by [] q = absurd (omega arith)
+    by (a ∷ []) q = refl
+    by (a ∷ b ∷ m) q = absurd (omega (arith, q))
 
 -- the ends of the net
 pub all-ends : (w : ℕ) (E : List ℕ) (m : ℕ) (l : List ℤ) → take m (ups l) ≡ table (endWord w E) m → ups (take m l) ≡ table (endWord w E) m
@@ -104,12 +108,6 @@ parts-ended k l m a b h =
     (q ∙ sym p, omega arith)
 
 -- ---- what is lent
-
-pub scratch-of : {a b d e : ℕ} {nodes marked kept g pred queue blocks estimates path : List ℕ}
-    → Space a b d e (length nodes) (length marked) (length kept) (length g) (length pred) (length queue) (length blocks) (length estimates) (length path)
-    → Scratch nodes marked kept g pred queue blocks estimates path
-scratch-of s =
-    record { ends-room = s .nodes-room; marked-room = s .marked-room; kept-room = s .kept-room; g-room = s .g-room; pred-room = s .pred-room; queue-room = s .queue-room; blocks-room = s .blocks-room; estimates-room = s .estimates-room; path-room = s .path-room }
 
 -- the line of a search, in columns with room for it
 pub found-by : (G : Graph) → (0 < G .count → Ready G) → (x y : ℕ) (exs eys : List ℕ) (num r : ℕ) (lx ly : List ℤ) (kinds ways : List ℕ) → Searched G x y exs eys num r (ups lx) (ups ly) kinds ways
@@ -148,6 +146,3 @@ module _ (L L′ : Line) (sx sy : ℕ) (a a′ : Bool) (W : Wires) (l : L ≡ L�
 
 pub room-kept : {k a b : ℕ} → b ≡ a → k ≤ a → k ≤ b
 room-kept e h = rw e h
-
-pub part-held : {k r a b : ℕ} → r ≤ k → b ≡ a → k ≤ a → r ≤ b
-part-held h e l = omega arith

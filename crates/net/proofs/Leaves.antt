@@ -12,7 +12,7 @@ use Rattle.fixed.specs.Up.{BIAS, ups}
 use Rattle.nodes.specs.Graph.{seek}
 use Rattle.nodes.specs.Lent.{graph}
 use Rattle.nodes.proofs.Nodes.{seek-take}
-use Rattle.graph.specs.Zeros.{closed}
+use Rattle.zeros.specs.Zeros.{closed}
 use Rattle.path_finding.specs.Line.{table}
 use Rattle.path_finding.proofs.Laws.{snoc, table-put}
 use Rattle.wire.specs.Wires.{vertices}

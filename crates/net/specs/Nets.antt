@@ -9,7 +9,7 @@ use Rattle.fixed.specs.Up.{BIAS}
 use Rattle.nodes.specs.Graph.{Graph, seek}
 use Rattle.path_finding.specs.Line.{table, place-at, kind-at, direction-at}
 use Rattle.path_finding.specs.Places.{known, line-between}
-use Rattle.graph.specs.Zeros.{closed}
+use Rattle.zeros.specs.Zeros.{closed}
 use Rattle.vertex.specs.declared.Junction.the-variants.{None}
 use Rattle.wire.specs.Lines.{Line, line}
 use Rattle.wire.specs.Wires.{Vertices, vertices, Ends, ends, Wires, wires}

@@ -7,7 +7,7 @@ ghost use Prim.Native.Nat.{_+_, _*_, _<_, _≤_};
 ghost use lib.ListN.{length, take};
 ghost use Rattle.fixed.specs.Up.{ups};
 ghost use Rattle.nodes.specs.Lent.{graph};
-ghost use Rattle.graph.specs.Zeros.{closed};
+ghost use Rattle.zeros.specs.Zeros.{closed};
 ghost use Rattle.path_finding.specs.Line.{table};
 ghost use Rattle.path_finding.specs.Places.{known};
 ghost use Rattle.wire.specs.Lines.{line};
@@ -113,18 +113,6 @@ fn write_ends(ends: &[u32], w: usize, m: usize, to: &mut [i32])
     }
 }
 
-// Zeros behind the first `from` bytes.
-fn zero_bytes(col: &mut [u8], from: usize)
-    requires { ⌜ from ≤ length (now col) ⌝ }
-    ensures { λ _. ⌜ now (col .exit) ≡ closed 0 from (now (col .entry)) ⌝ }
-{
-    let mut i = from;
-    while i < col.len() {
-        col[i] = 0;
-        i += 1;
-    }
-}
-
 // Zeros behind the page's n vertices and j junctions: the net has none.
 pub fn refuse(
     number: u32,
@@ -138,14 +126,14 @@ pub fn refuse(
     requires { ⌜ (n ≤ length (now x)) × (n ≤ length (now y)) × (n ≤ length (now letters)) × (j ≤ 256) × (3 * j ≤ length (now joins)) ⌝ }
     ensures { λ r. ⌜ net (r .number) (vertices (ups (now (x .exit))) (ups (now (y .exit))) (now (letters .exit)) (r .n)) (now (joins .exit)) (r .j) ≡ refused number (vertices (ups (now (x .entry))) (ups (now (y .entry))) (now (letters .entry)) n) (now (joins .entry)) j ⌝ }
 {
-    graph::zero_steps(x, n);
-    graph::zero_steps(y, n);
-    zero_bytes(letters, n);
-    graph::zero_words(joins, 3 * j);
+    zeros::zero_steps(x, n);
+    zeros::zero_steps(y, n);
+    zeros::zero_bytes(letters, n);
+    zeros::zero_words(joins, 3 * j);
     Done { number, n, j }
 }
 
-// The line from (x, y) to one of the ends: the first entries of its columns, as many as it returns.
+// The line from (x, y) to one of the ends: the first entries of its columns, as many as it returns. The scratch of the search is made here.
 fn find_line(
     xs: &[i32],
     ys: &[i32],
@@ -160,45 +148,13 @@ fn find_line(
     ly: &mut [i32],
     kinds: &mut [u8],
     ways: &mut [u8],
-    nodes: &mut [u32],
-    marked: &mut [u8],
-    kept: &mut [u32],
-    g: &mut [u64],
-    pred: &mut [u32],
-    queue: &mut [u64],
-    blocks: &mut [u32],
-    estimates: &mut [u64],
-    path: &mut [u32],
 ) -> usize
     requires { ⌜ (0 < n → Ready (graph n (now xs) (now ys) (now links) (now marks))) ⌝ }
     requires { ⌜ (length (now ey) ≡ length (now ex)) × (length (now ex) ≤ 4096) ⌝ }
-    requires { ⌜ Space (length (now lx)) (length (now ly)) (length (now kinds)) (length (now ways)) (length (now nodes)) (length (now marked)) (length (now kept)) (length (now g)) (length (now pred)) (length (now queue)) (length (now blocks)) (length (now estimates)) (length (now path)) ⌝ }
+    requires { ⌜ Space (length (now lx)) (length (now ly)) (length (now kinds)) (length (now ways)) ⌝ }
     ensures { λ r. ⌜ (r ≤ 4096) × (line (take r (ups (now (lx .exit)))) (take r (ups (now (ly .exit)))) (take r (now (kinds .exit))) (take r (now (ways .exit))) r ≡ foundLine (graph n (now (xs .entry)) (now (ys .entry)) (now (links .entry)) (now (marks .entry))) x y (ups (now (ex .entry))) (ups (now (ey .entry)))) ⌝ }
 {
-    let a = search::find_path(
-        xs,
-        ys,
-        links,
-        marks,
-        n,
-        x,
-        y,
-        ex,
-        ey,
-        lx,
-        ly,
-        kinds,
-        ways,
-        nodes,
-        marked,
-        kept,
-        g,
-        pred,
-        queue,
-        blocks,
-        estimates,
-        path,
-    );
+    let a = search::find_path(xs, ys, links, marks, n, x, y, ex, ey, lx, ly, kinds, ways);
     a.nodes
 }
 
@@ -213,29 +169,19 @@ fn root_line(
     sy: u32,
     tx: u32,
     ty: u32,
-    ex: &mut [i32],
-    ey: &mut [i32],
     lx: &mut [i32],
     ly: &mut [i32],
     kinds: &mut [u8],
     ways: &mut [u8],
-    nodes: &mut [u32],
-    marked: &mut [u8],
-    kept: &mut [u32],
-    g: &mut [u64],
-    pred: &mut [u32],
-    queue: &mut [u64],
-    blocks: &mut [u32],
-    estimates: &mut [u64],
-    path: &mut [u32],
 ) -> usize
     requires { ⌜ (0 < n → Ready (graph n (now xs) (now ys) (now links) (now marks))) ⌝ }
-    requires { ⌜ (4096 ≤ length (now ex)) × (4096 ≤ length (now ey)) ⌝ }
-    requires { ⌜ Space (length (now lx)) (length (now ly)) (length (now kinds)) (length (now ways)) (length (now nodes)) (length (now marked)) (length (now kept)) (length (now g)) (length (now pred)) (length (now queue)) (length (now blocks)) (length (now estimates)) (length (now path)) ⌝ }
+    requires { ⌜ Space (length (now lx)) (length (now ly)) (length (now kinds)) (length (now ways)) ⌝ }
     ensures { λ r. ⌜ (r ≤ 4096) × (line (take r (ups (now (lx .exit)))) (take r (ups (now (ly .exit)))) (take r (now (kinds .exit))) (take r (now (ways .exit))) r ≡ foundLine (graph n (now (xs .entry)) (now (ys .entry)) (now (links .entry)) (now (marks .entry))) sx sy (tx ∷ []) (ty ∷ [])) ⌝ }
 {
-    fixed::put(ex, 0, tx);
-    fixed::put(ey, 0, ty);
+    let mut ex: [i32; 1] = [0; 1];
+    let mut ey: [i32; 1] = [0; 1];
+    fixed::put(&mut ex, 0, tx);
+    fixed::put(&mut ey, 0, ty);
     find_line(
         xs,
         ys,
@@ -244,21 +190,12 @@ fn root_line(
         n,
         sx,
         sy,
-        &ex[..1],
-        &ey[..1],
+        &ex,
+        &ey,
         lx,
         ly,
         kinds,
         ways,
-        nodes,
-        marked,
-        kept,
-        g,
-        pred,
-        queue,
-        blocks,
-        estimates,
-        path,
     )
 }
 
@@ -273,29 +210,20 @@ fn branch_line(
     sy: u32,
     rows: &[u32],
     m: usize,
-    ex: &mut [i32],
-    ey: &mut [i32],
     lx: &mut [i32],
     ly: &mut [i32],
     kinds: &mut [u8],
     ways: &mut [u8],
-    nodes: &mut [u32],
-    marked: &mut [u8],
-    kept: &mut [u32],
-    g: &mut [u64],
-    pred: &mut [u32],
-    queue: &mut [u64],
-    blocks: &mut [u32],
-    estimates: &mut [u64],
-    path: &mut [u32],
 ) -> usize
     requires { ⌜ (0 < n → Ready (graph n (now xs) (now ys) (now links) (now marks))) ⌝ }
-    requires { ⌜ (4096 ≤ length (now ex)) × (4096 ≤ length (now ey)) × (m ≤ 4096) × (16384 ≤ length (now rows)) ⌝ }
-    requires { ⌜ Space (length (now lx)) (length (now ly)) (length (now kinds)) (length (now ways)) (length (now nodes)) (length (now marked)) (length (now kept)) (length (now g)) (length (now pred)) (length (now queue)) (length (now blocks)) (length (now estimates)) (length (now path)) ⌝ }
+    requires { ⌜ (m ≤ 4096) × (16384 ≤ length (now rows)) ⌝ }
+    requires { ⌜ Space (length (now lx)) (length (now ly)) (length (now kinds)) (length (now ways)) ⌝ }
     ensures { λ r. ⌜ (r ≤ 4096) × (line (take r (ups (now (lx .exit)))) (take r (ups (now (ly .exit)))) (take r (now (kinds .exit))) (take r (now (ways .exit))) r ≡ branchLine (graph n (now (xs .entry)) (now (ys .entry)) (now (links .entry)) (now (marks .entry))) sx sy (endsOf (now (rows .entry)) m)) ⌝ }
 {
-    write_ends(rows, 0, m, ex);
-    write_ends(rows, 1, m, ey);
+    let mut ex: [i32; 4096] = [0; 4096];
+    let mut ey: [i32; 4096] = [0; 4096];
+    write_ends(rows, 0, m, &mut ex);
+    write_ends(rows, 1, m, &mut ey);
     find_line(
         xs,
         ys,
@@ -310,15 +238,6 @@ fn branch_line(
         ly,
         kinds,
         ways,
-        nodes,
-        marked,
-        kept,
-        g,
-        pred,
-        queue,
-        blocks,
-        estimates,
-        path,
     )
 }
 
@@ -338,30 +257,17 @@ fn root_wire(
     letters: &mut [u8],
     count: usize,
     rows: &mut [u32],
-    joins: &[u32],
-    ex: &mut [i32],
-    ey: &mut [i32],
-    lx: &mut [i32],
-    ly: &mut [i32],
-    kinds: &mut [u8],
-    ways: &mut [u8],
-    nodes: &mut [u32],
-    marked: &mut [u8],
-    kept: &mut [u32],
-    g: &mut [u64],
-    pred: &mut [u32],
-    queue: &mut [u64],
-    blocks: &mut [u32],
-    estimates: &mut [u64],
-    path: &mut [u32],
 ) -> Step
     requires { ⌜ (0 < n → Ready (graph n (now xs) (now ys) (now links) (now marks))) ⌝ }
-    requires { ⌜ Page (length (now x)) (length (now y)) (length (now letters)) (length (now joins)) (length (now rows)) (length (now ex)) (length (now ey)) ⌝ }
+    requires { ⌜ Page (length (now x)) (length (now y)) (length (now letters)) (length (now rows)) ⌝ }
     requires { ⌜ count ≤ 512 ⌝ }
-    requires { ⌜ Space (length (now lx)) (length (now ly)) (length (now kinds)) (length (now ways)) (length (now nodes)) (length (now marked)) (length (now kept)) (length (now g)) (length (now pred)) (length (now queue)) (length (now blocks)) (length (now estimates)) (length (now path)) ⌝ }
     ensures { λ r. ⌜ tried (r .number) (wires (vertices (ups (now (x .exit))) (ups (now (y .exit))) (now (letters .exit)) (r .n)) (endsOf (now (rows .exit)) (r .m))) ≡ routeWire (foundLine (graph n (now (xs .entry)) (now (ys .entry)) (now (links .entry)) (now (marks .entry))) sx sy (tx ∷ []) (ty ∷ [])) sx sy tx ty (alongFrom (graph n (now (xs .entry)) (now (ys .entry)) (now (links .entry)) (now (marks .entry))) sx sy) true Junction.None (wires (vertices (ups (now (x .entry))) (ups (now (y .entry))) (now (letters .entry)) count) (endsOf (now (rows .entry)) 0)) ⌝ }
 {
     let ahead = along(xs, ys, links, marks, n, sx, sy);
+    let mut lx: [i32; 4096] = [0; 4096];
+    let mut ly: [i32; 4096] = [0; 4096];
+    let mut kinds: [u8; 4096] = [0; 4096];
+    let mut ways: [u8; 4096] = [0; 4096];
     let c = root_line(
         xs,
         ys,
@@ -372,21 +278,10 @@ fn root_wire(
         sy,
         tx,
         ty,
-        ex,
-        ey,
-        lx,
-        ly,
-        kinds,
-        ways,
-        nodes,
-        marked,
-        kept,
-        g,
-        pred,
-        queue,
-        blocks,
-        estimates,
-        path,
+        &mut lx,
+        &mut ly,
+        &mut kinds,
+        &mut ways,
     );
     routing::route_wire(
         &lx[..c],
@@ -427,30 +322,18 @@ fn branch(
     m: usize,
     joins: &mut [u32],
     j: usize,
-    ex: &mut [i32],
-    ey: &mut [i32],
-    lx: &mut [i32],
-    ly: &mut [i32],
-    kinds: &mut [u8],
-    ways: &mut [u8],
-    nodes: &mut [u32],
-    marked: &mut [u8],
-    kept: &mut [u32],
-    g: &mut [u64],
-    pred: &mut [u32],
-    queue: &mut [u64],
-    blocks: &mut [u32],
-    estimates: &mut [u64],
-    path: &mut [u32],
 ) -> Step
     requires { ⌜ (0 < n → Ready (graph n (now xs) (now ys) (now links) (now marks))) ⌝ }
-    requires { ⌜ Page (length (now x)) (length (now y)) (length (now letters)) (length (now joins)) (length (now rows)) (length (now ex)) (length (now ey)) ⌝ }
-    requires { ⌜ (count ≤ 512) × (0 < m) × (m ≤ 4096) × (j < 256) ⌝ }
-    requires { ⌜ Space (length (now lx)) (length (now ly)) (length (now kinds)) (length (now ways)) (length (now nodes)) (length (now marked)) (length (now kept)) (length (now g)) (length (now pred)) (length (now queue)) (length (now blocks)) (length (now estimates)) (length (now path)) ⌝ }
+    requires { ⌜ Page (length (now x)) (length (now y)) (length (now letters)) (length (now rows)) ⌝ }
+    requires { ⌜ (count ≤ 512) × (0 < m) × (m ≤ 4096) × (j < 256) × (768 ≤ length (now joins)) ⌝ }
     ensures { λ r. ⌜ tried (r .number) (wires (vertices (ups (now (x .exit))) (ups (now (y .exit))) (now (letters .exit)) (r .n)) (endsOf (now (rows .exit)) (r .m))) ≡ routeBranch (branchLine (graph n (now (xs .entry)) (now (ys .entry)) (now (links .entry)) (now (marks .entry))) sx sy (endsOf (now (rows .entry)) m)) sx sy (alongFrom (graph n (now (xs .entry)) (now (ys .entry)) (now (links .entry)) (now (marks .entry))) sx sy) (wires (vertices (ups (now (x .entry))) (ups (now (y .entry))) (now (letters .entry)) count) (endsOf (now (rows .entry)) m)) ⌝ }
     ensures { λ _. ⌜ now (joins .exit) ≡ joinBranch (branchLine (graph n (now (xs .entry)) (now (ys .entry)) (now (links .entry)) (now (marks .entry))) sx sy (endsOf (now (rows .entry)) m)) sx sy (alongFrom (graph n (now (xs .entry)) (now (ys .entry)) (now (links .entry)) (now (marks .entry))) sx sy) (wires (vertices (ups (now (x .entry))) (ups (now (y .entry))) (now (letters .entry)) count) (endsOf (now (rows .entry)) m)) (now (joins .entry)) j ⌝ }
 {
     let ahead = along(xs, ys, links, marks, n, sx, sy);
+    let mut lx: [i32; 4096] = [0; 4096];
+    let mut ly: [i32; 4096] = [0; 4096];
+    let mut kinds: [u8; 4096] = [0; 4096];
+    let mut ways: [u8; 4096] = [0; 4096];
     let c = branch_line(
         xs,
         ys,
@@ -461,21 +344,10 @@ fn branch(
         sy,
         rows,
         m,
-        ex,
-        ey,
-        lx,
-        ly,
-        kinds,
-        ways,
-        nodes,
-        marked,
-        kept,
-        g,
-        pred,
-        queue,
-        blocks,
-        estimates,
-        path,
+        &mut lx,
+        &mut ly,
+        &mut kinds,
+        &mut ways,
     );
     routing::route_branch(
         &lx[..c],
@@ -543,26 +415,10 @@ fn branch_from(
     m: usize,
     joins: &mut [u32],
     j: usize,
-    ex: &mut [i32],
-    ey: &mut [i32],
-    lx: &mut [i32],
-    ly: &mut [i32],
-    kinds: &mut [u8],
-    ways: &mut [u8],
-    nodes: &mut [u32],
-    marked: &mut [u8],
-    kept: &mut [u32],
-    g: &mut [u64],
-    pred: &mut [u32],
-    queue: &mut [u64],
-    blocks: &mut [u32],
-    estimates: &mut [u64],
-    path: &mut [u32],
 ) -> Made
     requires { ⌜ (0 < n → Ready (graph n (now xs) (now ys) (now links) (now marks))) ⌝ }
-    requires { ⌜ Page (length (now x)) (length (now y)) (length (now letters)) (length (now joins)) (length (now rows)) (length (now ex)) (length (now ey)) ⌝ }
-    requires { ⌜ (count ≤ 512) × (0 < m) × (m ≤ 4096) × (j < 256) ⌝ }
-    requires { ⌜ Space (length (now lx)) (length (now ly)) (length (now kinds)) (length (now ways)) (length (now nodes)) (length (now marked)) (length (now kept)) (length (now g)) (length (now pred)) (length (now queue)) (length (now blocks)) (length (now estimates)) (length (now path)) ⌝ }
+    requires { ⌜ Page (length (now x)) (length (now y)) (length (now letters)) (length (now rows)) ⌝ }
+    requires { ⌜ (count ≤ 512) × (0 < m) × (m ≤ 4096) × (j < 256) × (768 ≤ length (now joins)) ⌝ }
     ensures { λ r. ⌜ branched (r .number) (wires (vertices (ups (now (x .exit))) (ups (now (y .exit))) (now (letters .exit)) (r .n)) (endsOf (now (rows .exit)) (r .m))) (now (joins .exit)) (r .j) ≡ branchFrom (graph n (now (xs .entry)) (now (ys .entry)) (now (links .entry)) (now (marks .entry))) sx sy (branched 0 (wires (vertices (ups (now (x .entry))) (ups (now (y .entry))) (now (letters .entry)) count) (endsOf (now (rows .entry)) m)) (now (joins .entry)) j) ⌝ }
 {
     let t = branch(
@@ -581,21 +437,6 @@ fn branch_from(
         m,
         joins,
         j,
-        ex,
-        ey,
-        lx,
-        ly,
-        kinds,
-        ways,
-        nodes,
-        marked,
-        kept,
-        g,
-        pred,
-        queue,
-        blocks,
-        estimates,
-        path,
     );
     with_junction(t, j)
 }
@@ -621,26 +462,10 @@ pub fn branch_at(
     m: usize,
     joins: &mut [u32],
     j: usize,
-    ex: &mut [i32],
-    ey: &mut [i32],
-    lx: &mut [i32],
-    ly: &mut [i32],
-    kinds: &mut [u8],
-    ways: &mut [u8],
-    nodes: &mut [u32],
-    marked: &mut [u8],
-    kept: &mut [u32],
-    g: &mut [u64],
-    pred: &mut [u32],
-    queue: &mut [u64],
-    blocks: &mut [u32],
-    estimates: &mut [u64],
-    path: &mut [u32],
 ) -> Made
     requires { ⌜ (0 < n → Ready (graph n (now xs) (now ys) (now links) (now marks))) ⌝ }
-    requires { ⌜ Page (length (now x)) (length (now y)) (length (now letters)) (length (now joins)) (length (now rows)) (length (now ex)) (length (now ey)) ⌝ }
-    requires { ⌜ (i < length (now px)) × (length (now px) ≤ 256) × (length (now py) ≡ length (now px)) × (number ≡ 0 → Bounds count m j) ⌝ }
-    requires { ⌜ Space (length (now lx)) (length (now ly)) (length (now kinds)) (length (now ways)) (length (now nodes)) (length (now marked)) (length (now kept)) (length (now g)) (length (now pred)) (length (now queue)) (length (now blocks)) (length (now estimates)) (length (now path)) ⌝ }
+    requires { ⌜ Page (length (now x)) (length (now y)) (length (now letters)) (length (now rows)) ⌝ }
+    requires { ⌜ (i < length (now px)) × (length (now px) ≤ 256) × (length (now py) ≡ length (now px)) × (number ≡ 0 → Bounds count m j) × (768 ≤ length (now joins)) ⌝ }
     ensures { λ r. ⌜ branched (r .number) (wires (vertices (ups (now (x .exit))) (ups (now (y .exit))) (now (letters .exit)) (r .n)) (endsOf (now (rows .exit)) (r .m))) (now (joins .exit)) (r .j) ≡ branchAt (graph n (now (xs .entry)) (now (ys .entry)) (now (links .entry)) (now (marks .entry))) (now (px .entry)) (now (py .entry)) a b i (branched number (wires (vertices (ups (now (x .entry))) (ups (now (y .entry))) (now (letters .entry)) count) (endsOf (now (rows .entry)) m)) (now (joins .entry)) j) ⌝ }
 {
     if number != 0 {
@@ -675,21 +500,6 @@ pub fn branch_at(
         m,
         joins,
         j,
-        ex,
-        ey,
-        lx,
-        ly,
-        kinds,
-        ways,
-        nodes,
-        marked,
-        kept,
-        g,
-        pred,
-        queue,
-        blocks,
-        estimates,
-        path,
     )
 }
 
@@ -709,27 +519,10 @@ pub fn root_at(
     letters: &mut [u8],
     count: usize,
     rows: &mut [u32],
-    joins: &[u32],
-    ex: &mut [i32],
-    ey: &mut [i32],
-    lx: &mut [i32],
-    ly: &mut [i32],
-    kinds: &mut [u8],
-    ways: &mut [u8],
-    nodes: &mut [u32],
-    marked: &mut [u8],
-    kept: &mut [u32],
-    g: &mut [u64],
-    pred: &mut [u32],
-    queue: &mut [u64],
-    blocks: &mut [u32],
-    estimates: &mut [u64],
-    path: &mut [u32],
 ) -> Step
     requires { ⌜ (0 < n → Ready (graph n (now xs) (now ys) (now links) (now marks))) ⌝ }
-    requires { ⌜ Page (length (now x)) (length (now y)) (length (now letters)) (length (now joins)) (length (now rows)) (length (now ex)) (length (now ey)) ⌝ }
+    requires { ⌜ Page (length (now x)) (length (now y)) (length (now letters)) (length (now rows)) ⌝ }
     requires { ⌜ (a < length (now px)) × (b < length (now px)) × (length (now px) ≤ 256) × (length (now py) ≡ length (now px)) × (count ≤ 512) ⌝ }
-    requires { ⌜ Space (length (now lx)) (length (now ly)) (length (now kinds)) (length (now ways)) (length (now nodes)) (length (now marked)) (length (now kept)) (length (now g)) (length (now pred)) (length (now queue)) (length (now blocks)) (length (now estimates)) (length (now path)) ⌝ }
     ensures { λ r. ⌜ tried (r .number) (wires (vertices (ups (now (x .exit))) (ups (now (y .exit))) (now (letters .exit)) (r .n)) (endsOf (now (rows .exit)) (r .m))) ≡ rootWire (graph n (now (xs .entry)) (now (ys .entry)) (now (links .entry)) (now (marks .entry))) (now (px .entry)) (now (py .entry)) a b (wires (vertices (ups (now (x .entry))) (ups (now (y .entry))) (now (letters .entry)) count) (endsOf (now (rows .entry)) 0)) ⌝ }
 {
     root_wire(
@@ -747,21 +540,5 @@ pub fn root_at(
         letters,
         count,
         rows,
-        joins,
-        ex,
-        ey,
-        lx,
-        ly,
-        kinds,
-        ways,
-        nodes,
-        marked,
-        kept,
-        g,
-        pred,
-        queue,
-        blocks,
-        estimates,
-        path,
     )
 }

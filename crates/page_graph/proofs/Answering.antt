@@ -26,7 +26,7 @@ use Rattle.anchors.specs.Records.{Records}
 use Rattle.anchors.specs.Explicit.{Columns, explicit, columns}
 use Rattle.anchors.proofs.Columns.{long}
 use Rattle.graph.specs.Build.{Boxes, whole, made, Made}
-use Rattle.graph.specs.Zeros.{closed}
+use Rattle.zeros.specs.Zeros.{closed}
 use Rattle.page_graph.specs.Page.{CROWDED, padded-boxes, boxes-of-page, anchors-of-page, crowded, page-graph, implicit, anchors-of, all-anchors, overfull, number, shown}
 use Rattle.page_graph.specs.Lent.{Answered, Gathered, Finished}
 

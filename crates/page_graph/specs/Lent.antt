@@ -19,7 +19,7 @@ use Rattle.nodes.specs.Graph.{Graph, NODES}
 use Rattle.scan.specs.Lent.{Anchored}
 use Rattle.anchors.specs.Records.{BOX, Records, RowsHeld}
 use Rattle.anchors.specs.Explicit.{Columns, explicit}
-use Rattle.graph.specs.Zeros.{closed}
+use Rattle.zeros.specs.Zeros.{closed}
 use Rattle.page_graph.specs.Page.{CROWDED, then-implicit, number, shown}
 
 -- 01, 'Limits': 256 ports and 256 endpoints

@@ -297,3 +297,62 @@ pub fn build(
         pruned,
     )
 }
+
+// The graph of a page's records, in the lent columns: how many nodes it has, or more than there may be. The scratch is made here.
+pub fn graph_of(
+    boxes: &[u32],
+    nb: usize,
+    ports: &[u32],
+    np: usize,
+    nets: &[u32],
+    nn: usize,
+    ends: &[u32],
+    ne: usize,
+    pruned: bool,
+    xs: &mut [i32],
+    ys: &mut [i32],
+    links: &mut [u32],
+    marks: &mut [u32],
+) -> usize
+    requires { ⌜ Asked (records (now boxes) nb (now ports) np (now nets) nn (now ends) ne) ⌝ }
+    requires { ⌜ Roomy (now xs) (now ys) (now links) (now marks) ⌝ }
+    ensures { λ r. ⌜ Answered r (now (xs .exit)) (now (ys .exit)) (now (links .exit)) (now (marks .exit)) (length (now (xs .entry))) (length (now (ys .entry))) (length (now (links .entry))) (length (now (marks .entry))) (crowded (records (now (boxes .entry)) nb (now (ports .entry)) np (now (nets .entry)) nn (now (ends .entry)) ne)) (page-graph (records (now (boxes .entry)) nb (now (ports .entry)) np (now (nets .entry)) nn (now (ends .entry)) ne) pruned) ⌝ }
+{
+    let mut bx: [i32; 64] = [0; 64];
+    let mut by: [i32; 64] = [0; 64];
+    let mut tx: [i32; 64] = [0; 64];
+    let mut ty: [i32; 64] = [0; 64];
+    let mut cx: [i32; 2560] = [0; 2560];
+    let mut cy: [i32; 2560] = [0; 2560];
+    let mut ways: [u32; 2560] = [0; 2560];
+    let mut own: [u32; 2560] = [0; 2560];
+    let mut table: [u32; 8255] = [0; 8255];
+    let mut ax: [i32; 2560] = [0; 2560];
+    let mut ay: [i32; 2560] = [0; 2560];
+    build(
+        boxes,
+        nb,
+        ports,
+        np,
+        nets,
+        nn,
+        ends,
+        ne,
+        pruned,
+        &mut bx,
+        &mut by,
+        &mut tx,
+        &mut ty,
+        &mut cx,
+        &mut cy,
+        &mut ways,
+        &mut own,
+        &mut table,
+        &mut ax,
+        &mut ay,
+        xs,
+        ys,
+        links,
+        marks,
+    )
+}

@@ -8,21 +8,19 @@ use borrow.Author.Tests.{le-ltb}
 use lib.Dec.{ltb}
 use lib.IntN.{ℤ}
 use lib.ListN.{length, getD}
-use Rattle.fixed.specs.Constants.{BOXES}
 use Rattle.fixed.specs.Up.{BIAS, ups}
-use Rattle.queue.specs.Index.{BLOCKS}
 use Rattle.nodes.specs.Graph.{Graph, NODES}
 use Rattle.nodes.specs.Lent.{graph}
 use Rattle.astar.specs.Reached.{LIMIT, Ready}
 use Rattle.path_finding.specs.Line.{table, place-at, kind-at, direction-at, Written}
 use Rattle.path_finding.specs.Places.{line-between}
-use Rattle.search.specs.Searched.{Searched, Scratch}
+use Rattle.search.specs.Searched.{Searched}
 use Rattle.anchors.specs.Records.{Records}
 use Rattle.page_graph.specs.Page.{crowded, page-graph, number}
 use Rattle.page_graph.proofs.Theorem.{page-sound, page-made, page-nodes}
-use Rattle.page_graph.specs.Lent.{Asked, Scratch as GraphScratch, Answered}
+use Rattle.page_graph.specs.Lent.{Asked, Answered}
 use Rattle.page_search.specs.Page.{CROWDED, searchNumber, searchLine, PageSearched}
-use Rattle.page_search.specs.Lent.{Tried, Room, GraphRoom, PageRoom}
+use Rattle.page_search.specs.Lent.{Tried}
 use Rattle.page_search.specs.Exists.{Sound}
 use Rattle.page_search.proofs.Ready.{page-ready}
 
@@ -87,25 +85,6 @@ module _ (r : Records) (s : Sound r) (pruned : Bool) (n : ℕ) (xs ys : List ℤ
       go false e =
           let f = rw (graph-is e) at (t .fits (under e)) in
           record { number-is = rw e (f .number-is); nodes-is = rw e (f .nodes-is); written = rw e (f .written) }
-
--- ---- sizes
-
-pub scratch : {ends marked kept g pred queue blocks estimates path : List ℕ} → Room ends marked kept g pred queue estimates path → BLOCKS ≤ length blocks → Scratch ends marked kept g pred queue blocks estimates path
-scratch r h =
-    record { ends-room = r .ends-room; marked-room = r .marked-room; kept-room = r .kept-room; g-room = r .g-room; pred-room = r .pred-room; queue-room = r .queue-room; blocks-room = h; estimates-room = r .estimates-room; path-room = r .path-room }
-
-pub graph-scratch : {bx by ex ey cx cy : List ℤ} {ways own table : List ℕ} {ax ay : List ℤ} → GraphRoom cx cy ways own table ax ay → BOXES ≤ length bx → BOXES ≤ length by → BOXES ≤ length ex → BOXES ≤ length ey → GraphScratch bx by ex ey cx cy ways own table ax ay
-graph-scratch r a b c d =
-    record { min-x-room = a; min-y-room = b; max-x-room = c; max-y-room = d; anchor-room = r .anchor-room; table-room = r .table-room; axis-x-room = r .axis-x-room; axis-y-room = r .axis-y-room }
-
-module _ {lx ly cx cy : List ℤ} {ways own table marked g queue estimates path : List ℕ} (r : PageRoom lx ly cx cy ways own table marked g queue estimates path) where
-  pub graph-room : GraphRoom cx cy ways own table lx ly
-  graph-room =
-      record { anchor-room = record { xs-held = r .cx-room; ys-held = r .cy-room; dirs-held = omega arith; boxes-held = omega arith }; table-room = r .table-room; axis-x-room = r .lx-room; axis-y-room = r .ly-room }
-
-  pub search-room : (ways′ own′ table′ : List ℕ) → length ways′ ≡ length ways → length own′ ≡ length own → length table′ ≡ length table → Room ways′ marked own′ g table′ queue estimates path
-  search-room ways′ own′ table′ a b c =
-      record { ends-room = omega arith; marked-room = r .marked-room; kept-room = omega arith; g-room = r .g-room; pred-room = omega arith; queue-room = r .queue-room; estimates-room = r .estimates-room; path-room = r .path-room }
 
 pub sound-of : {r : Records} → Asked r → ((k : ℕ) → getD (r .ports) k 0 < LIMIT) → ((k : ℕ) → getD (r .ends) k 0 < LIMIT) → Sound r
 sound-of a p e = record { rows = a; port-words = p; end-words = e }

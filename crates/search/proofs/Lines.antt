@@ -4,16 +4,17 @@ use mathlib.Core.Path.{_≡_, refl, sym, ap, _∙_, subst}
 use mathlib.Core.List.{List, [], _++_}
 use mathlib.Core.Bool.{Bool, true, false, cond}
 use native.Mathlib.Omega.{arith}
+use native.Mathlib.Decide.{decLt}
 use native.Mathlib.Nat.{not-suc-le-zero}
 use lib.ListN.{length, take, drop, length-append, length-take, length-drop}
 use lib.Dec.{ltb}
 use borrow.Author.Tests.{le-ltb, ltb-true}
-use Rattle.nodes.specs.Graph.{Graph}
+use Rattle.nodes.specs.Graph.{Graph, NODES}
 use Rattle.astar.specs.Reached.{Ready, Below}
 use Rattle.path_finding.specs.Line.{line, Written}
 use Rattle.path_finding.specs.Places.{start-of, ends-of, ends-known, line-between, number, Answered}
 use Rattle.path_finding.proofs.Lines.{is-line-below}
-use Rattle.search.specs.Searched.{ENDS, Searched, Ended}
+use Rattle.search.specs.Searched.{Searched}
 
 pub none-below : (n : ℕ) → Below n []
 none-below n i h = absurd (not-suc-le-zero h)
@@ -59,5 +60,10 @@ module _ (G : Graph) (x y : ℕ) (exs eys : List ℕ) (z : G .count ≡ 0) where
 pub refit : {A : Type 0} (a b : List A) (n : ℕ) → length a ≡ length (take n b) → length (a ++ drop n b) ≡ length b
 refit a b n h = omega (arith, length-append a (drop n b), length-take n b, length-drop n b)
 
-pub ends-fit : {A : Type 0} (ex ey : List A) (ends kept : List ℕ) → Ended ex ey → ENDS ≤ length ends → ENDS ≤ length kept → (length ey ≡ length ex) × (length ex ≤ length ends) × (length ex ≤ length kept)
-ends-fit ex ey ends kept e a b = (e .even, omega (arith, e .most), omega (arith, e .most))
+-- a graph that is ready or empty
+pub few-or-none : (G : Graph) → (0 < G .count → Ready G) → G .count ≤ NODES
+few-or-none G w = go (decLt 0 (G .count))
+  where
+    go : Dec (0 < G .count) → G .count ≤ NODES
+    go (yes h) = w h .wf .few
+    go (no h) = omega arith

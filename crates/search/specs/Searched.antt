@@ -3,7 +3,7 @@ use Prim.Native.Nat.{ℕ, _≤_}
 use mathlib.Core.Path.{_≡_}
 use mathlib.Core.List.{List}
 use lib.ListN.{length}
-use Rattle.nodes.specs.Graph.{Graph, NODES}
+use Rattle.nodes.specs.Graph.{Graph}
 use Rattle.queue.specs.Index.{BLOCKS}
 use Rattle.path_finding.specs.Line.{Written}
 use Rattle.path_finding.specs.Places.{number, line-between}
@@ -23,14 +23,14 @@ pub record Ended {A : Type 0} (ex ey : List A) : Type 0 where
   pub even : length ey ≡ length ex
   pub most : length ex ≤ ENDS
 
--- the scratch of a search: its sizes. What it holds does not matter
-pub record Scratch (ends marked kept g pred queue blocks estimates path : List ℕ) : Type 0 where
-  pub ends-room : ENDS ≤ length ends
-  pub marked-room : NODES ≤ length marked
-  pub kept-room : ENDS ≤ length kept
-  pub g-room : NODES ≤ length g
-  pub pred-room : NODES ≤ length pred
-  pub queue-room : NODES ≤ length queue
+-- the scratch of a search on n nodes to m ends: its sizes. What it holds does not matter
+pub record Scratch (n m : ℕ) (ends marked kept g pred queue blocks estimates path : List ℕ) : Type 0 where
+  pub ends-room : m ≤ length ends
+  pub marked-room : n ≤ length marked
+  pub kept-room : m ≤ length kept
+  pub g-room : n ≤ length g
+  pub pred-room : n ≤ length pred
+  pub queue-room : n ≤ length queue
   pub blocks-room : BLOCKS ≤ length blocks
-  pub estimates-room : NODES ≤ length estimates
-  pub path-room : NODES ≤ length path
+  pub estimates-room : n ≤ length estimates
+  pub path-room : n ≤ length path

@@ -65,8 +65,8 @@ fn find_path_multi(
     a
 }
 
-// A search on a graph, which may be empty.
-pub fn find_path(
+// A search with the scratch that it is lent, of any length that is enough; an empty graph is answered at once.
+fn find_path_in(
     xs: &[i32],
     ys: &[i32],
     links: &[u32],
@@ -92,7 +92,7 @@ pub fn find_path(
 ) -> Answer
     requires { ⌜ (0 < n → Ready (graph n (now xs) (now ys) (now links) (now marks))) ⌝ }
     requires { ⌜ Ended (now ex) (now ey) ⌝ }
-    requires { ⌜ Scratch (now ends) (now marked) (now kept) (now g) (now pred) (now queue) (now blocks) (now estimates) (now path) ⌝ }
+    requires { ⌜ Scratch n (length (now ex)) (now ends) (now marked) (now kept) (now g) (now pred) (now queue) (now blocks) (now estimates) (now path) ⌝ }
     ensures { λ r. ⌜ Searched (graph n (now (xs .entry)) (now (ys .entry)) (now (links .entry)) (now (marks .entry))) x y (ups (now (ex .entry))) (ups (now (ey .entry))) (r .number) (r .nodes) (ups (now (lx .exit))) (ups (now (ly .exit))) (now (kinds .exit)) (now (dirs .exit)) ⌝ }
 {
     if n == 0 {
@@ -126,4 +126,141 @@ pub fn find_path(
         &mut estimates[..n],
         &mut path[..n],
     )
+}
+
+// A search on a graph of at most 512 nodes, to at most 512 ends: most pages have no larger one, and its scratch is an eighth.
+fn find_path_small(
+    xs: &[i32],
+    ys: &[i32],
+    links: &[u32],
+    marks: &[u32],
+    n: usize,
+    x: u32,
+    y: u32,
+    ex: &[i32],
+    ey: &[i32],
+    lx: &mut [i32],
+    ly: &mut [i32],
+    kinds: &mut [u8],
+    dirs: &mut [u8],
+) -> Answer
+    requires { ⌜ (0 < n → Ready (graph n (now xs) (now ys) (now links) (now marks))) ⌝ }
+    requires { ⌜ Ended (now ex) (now ey) ⌝ }
+    requires { ⌜ (n ≤ 512) × (length (now ex) ≤ 512) ⌝ }
+    ensures { λ r. ⌜ Searched (graph n (now (xs .entry)) (now (ys .entry)) (now (links .entry)) (now (marks .entry))) x y (ups (now (ex .entry))) (ups (now (ey .entry))) (r .number) (r .nodes) (ups (now (lx .exit))) (ups (now (ly .exit))) (now (kinds .exit)) (now (dirs .exit)) ⌝ }
+{
+    let mut ends: [u32; 512] = [0; 512];
+    let mut marked: [u8; 512] = [0; 512];
+    let mut kept: [u32; 512] = [0; 512];
+    let mut g: [u64; 512] = [0; 512];
+    let mut pred: [u32; 512] = [0; 512];
+    let mut queue: [u64; 512] = [0; 512];
+    let mut blocks: [u32; 64] = [0; 64];
+    let mut estimates: [u64; 512] = [0; 512];
+    let mut path: [u32; 512] = [0; 512];
+    find_path_in(
+        xs,
+        ys,
+        links,
+        marks,
+        n,
+        x,
+        y,
+        ex,
+        ey,
+        lx,
+        ly,
+        kinds,
+        dirs,
+        &mut ends,
+        &mut marked,
+        &mut kept,
+        &mut g,
+        &mut pred,
+        &mut queue,
+        &mut blocks,
+        &mut estimates,
+        &mut path,
+    )
+}
+
+// A search on any graph, with scratch for 4,096 nodes and ends.
+fn find_path_large(
+    xs: &[i32],
+    ys: &[i32],
+    links: &[u32],
+    marks: &[u32],
+    n: usize,
+    x: u32,
+    y: u32,
+    ex: &[i32],
+    ey: &[i32],
+    lx: &mut [i32],
+    ly: &mut [i32],
+    kinds: &mut [u8],
+    dirs: &mut [u8],
+) -> Answer
+    requires { ⌜ (0 < n → Ready (graph n (now xs) (now ys) (now links) (now marks))) ⌝ }
+    requires { ⌜ Ended (now ex) (now ey) ⌝ }
+    ensures { λ r. ⌜ Searched (graph n (now (xs .entry)) (now (ys .entry)) (now (links .entry)) (now (marks .entry))) x y (ups (now (ex .entry))) (ups (now (ey .entry))) (r .number) (r .nodes) (ups (now (lx .exit))) (ups (now (ly .exit))) (now (kinds .exit)) (now (dirs .exit)) ⌝ }
+{
+    let mut ends: [u32; 4096] = [0; 4096];
+    let mut marked: [u8; 4096] = [0; 4096];
+    let mut kept: [u32; 4096] = [0; 4096];
+    let mut g: [u64; 4096] = [0; 4096];
+    let mut pred: [u32; 4096] = [0; 4096];
+    let mut queue: [u64; 4096] = [0; 4096];
+    let mut blocks: [u32; 64] = [0; 64];
+    let mut estimates: [u64; 4096] = [0; 4096];
+    let mut path: [u32; 4096] = [0; 4096];
+    find_path_in(
+        xs,
+        ys,
+        links,
+        marks,
+        n,
+        x,
+        y,
+        ex,
+        ey,
+        lx,
+        ly,
+        kinds,
+        dirs,
+        &mut ends,
+        &mut marked,
+        &mut kept,
+        &mut g,
+        &mut pred,
+        &mut queue,
+        &mut blocks,
+        &mut estimates,
+        &mut path,
+    )
+}
+
+// The line from the place (x, y) to one of the ends on a built graph, with zeros behind it. The scratch is made here, as large as the graph asks.
+pub fn find_path(
+    xs: &[i32],
+    ys: &[i32],
+    links: &[u32],
+    marks: &[u32],
+    n: usize,
+    x: u32,
+    y: u32,
+    ex: &[i32],
+    ey: &[i32],
+    lx: &mut [i32],
+    ly: &mut [i32],
+    kinds: &mut [u8],
+    dirs: &mut [u8],
+) -> Answer
+    requires { ⌜ (0 < n → Ready (graph n (now xs) (now ys) (now links) (now marks))) ⌝ }
+    requires { ⌜ Ended (now ex) (now ey) ⌝ }
+    ensures { λ r. ⌜ Searched (graph n (now (xs .entry)) (now (ys .entry)) (now (links .entry)) (now (marks .entry))) x y (ups (now (ex .entry))) (ups (now (ey .entry))) (r .number) (r .nodes) (ups (now (lx .exit))) (ups (now (ly .exit))) (now (kinds .exit)) (now (dirs .exit)) ⌝ }
+{
+    if (n <= 512) & (ex.len() <= 512) {
+        return find_path_small(xs, ys, links, marks, n, x, y, ex, ey, lx, ly, kinds, dirs);
+    }
+    find_path_large(xs, ys, links, marks, n, x, y, ex, ey, lx, ly, kinds, dirs)
 }

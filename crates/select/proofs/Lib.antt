@@ -2,3 +2,4 @@ pub mod Flat
 pub mod Listed
 pub mod Ok
 pub mod Asked
+pub mod Lent

@@ -28,8 +28,8 @@ rows-of-requires-3 c κs = search needs
 rows-of-requires-4 : tie.Need-rows-of-requires-4
 rows-of-requires-4 c κs = search needs
 
-search-page-requires : tie.Need-search-page-requires
-search-page-requires c κs = valid-asks (c .before .before .before .before .before .before .before .before .before .before .before .before .before .before .before .args .desk .now) (c .before .before .before .before .before .before .before .before .before .before .before .before .before .before .before .args .prune) (c .before .before .before .before .before .before .before .before .before .before .before .before .before .before .before .args .x) (c .before .before .before .before .before .before .before .before .before .before .before .before .before .before .before .args .y) (c .before .before .before .before .before .before .before .before .before .before .before .before .before .before .before .args .ex .now) (c .before .before .before .before .before .before .before .before .before .before .before .before .before .before .before .args .ey .now) (c .before .before .before .before .before .before .before .before .before .before .before .before .before .before .before .args .lx .now) (c .before .before .before .before .before .before .before .before .before .before .before .before .before .before .before .args .ly .now) (c .before .before .before .before .before .before .before .before .before .before .before .before .before .before .before .args .kinds .now) (c .before .before .before .before .before .before .before .before .before .before .before .before .before .before .before .args .dirs .now) (c .before .before .before .before .before .before .before .before .before .before .before .before .before .before .before .pre .1 .0) _ _ _ _ _ _ _ _ (c .before .before .before .before .before .before .before .rows-of .ensures) (c .before .before .before .before .before .before .before .before .before .before .before .count-of .ensures) (c .before .before .before .before .before .before .rows-of2 .ensures) (c .before .before .before .before .before .before .before .before .before .before .count-of2 .ensures) (c .before .before .before .before .before .rows-of3 .ensures) (c .before .before .before .before .before .before .before .before .before .count-of3 .ensures) (c .before .before .before .before .rows-of4 .ensures) (c .before .before .before .before .before .before .before .before .count-of4 .ensures) (c .before .before .before .before .before .before .before .before .before .before .before .before .before .before .before .pre .1 .1)
+search-rows-requires : tie.Need-search-rows-requires
+search-rows-requires c κs = valid-asks (c .before .before .before .before .before .before .before .before .before .before .before .before .before .before .before .args .desk .now) (c .before .before .before .before .before .before .before .before .before .before .before .before .before .before .before .args .prune) (c .before .before .before .before .before .before .before .before .before .before .before .before .before .before .before .args .x) (c .before .before .before .before .before .before .before .before .before .before .before .before .before .before .before .args .y) (c .before .before .before .before .before .before .before .before .before .before .before .before .before .before .before .args .ex .now) (c .before .before .before .before .before .before .before .before .before .before .before .before .before .before .before .args .ey .now) (c .before .before .before .before .before .before .before .before .before .before .before .before .before .before .before .args .lx .now) (c .before .before .before .before .before .before .before .before .before .before .before .before .before .before .before .args .ly .now) (c .before .before .before .before .before .before .before .before .before .before .before .before .before .before .before .args .kinds .now) (c .before .before .before .before .before .before .before .before .before .before .before .before .before .before .before .args .dirs .now) (c .before .before .before .before .before .before .before .before .before .before .before .before .before .before .before .pre .1 .0) _ _ _ _ _ _ _ _ (c .before .before .before .before .before .before .before .rows-of .ensures) (c .before .before .before .before .before .before .before .before .before .before .before .count-of .ensures) (c .before .before .before .before .before .before .rows-of2 .ensures) (c .before .before .before .before .before .before .before .before .before .before .count-of2 .ensures) (c .before .before .before .before .before .rows-of3 .ensures) (c .before .before .before .before .before .before .before .before .before .count-of3 .ensures) (c .before .before .before .before .rows-of4 .ensures) (c .before .before .before .before .before .before .before .before .count-of4 .ensures) (c .before .before .before .before .before .before .before .before .before .before .before .before .before .before .before .pre .1 .1)
 
 same-length : tie.Need-same-length
 same-length c = search needs
@@ -44,7 +44,7 @@ same-length-4 : tie.Need-same-length-4
 same-length-4 c = search needs
 
 returns : tie.Need-returns
-returns c = valid-on (c .before .before .before .before .before .before .before .before .before .before .before .before .before .before .before .before .before .before .before .before .before .before .args .desk .now) (c .before .before .before .before .before .before .before .before .before .before .before .before .before .before .before .before .before .before .before .before .before .before .args .prune) (c .before .before .before .before .before .before .before .before .before .before .before .before .before .before .before .before .before .before .before .before .before .before .args .x) (c .before .before .before .before .before .before .before .before .before .before .before .before .before .before .before .before .before .before .before .before .before .before .args .y) (c .before .before .before .before .before .before .before .before .before .before .before .before .before .before .before .before .before .before .before .before .before .before .args .ex .now) (c .before .before .before .before .before .before .before .before .before .before .before .before .before .before .before .before .before .before .before .before .before .before .args .ey .now) (c .before .before .before .before .before .before .before .before .before .before .before .before .before .before .before .before .before .before .before .before .before .before .args .lx .now) (c .before .before .before .before .before .before .before .before .before .before .before .before .before .before .before .before .before .before .before .before .before .before .args .ly .now) (c .before .before .before .before .before .before .before .before .before .before .before .before .before .before .before .before .before .before .before .before .before .before .args .kinds .now) (c .before .before .before .before .before .before .before .before .before .before .before .before .before .before .before .before .before .before .before .before .before .before .args .dirs .now) (c .before .before .before .before .before .before .before .before .before .before .before .before .before .before .before .before .before .before .before .before .before .before .pre .1 .0) _ _ _ _ _ _ _ _ (c .before .before .before .before .before .before .before .before .before .before .before .before .before .before .rows-of .ensures) (c .before .before .before .before .before .before .before .before .before .before .before .before .before .before .before .before .before .before .count-of .ensures) (c .before .before .before .before .before .before .before .before .before .before .before .before .before .rows-of2 .ensures) (c .before .before .before .before .before .before .before .before .before .before .before .before .before .before .before .before .before .count-of2 .ensures) (c .before .before .before .before .before .before .before .before .before .before .before .before .rows-of3 .ensures) (c .before .before .before .before .before .before .before .before .before .before .before .before .before .before .before .before .count-of3 .ensures) (c .before .before .before .before .before .before .before .before .before .before .before .rows-of4 .ensures) (c .before .before .before .before .before .before .before .before .before .before .before .before .before .before .before .count-of4 .ensures) _ _ _ _ _ (search needs) (search needs) (search needs) (search needs) (c .before .before .before .before .before .before .search-page .ensures)
+returns c = valid-on (c .before .before .before .before .before .before .before .before .before .before .before .before .before .before .before .before .before .before .before .before .before .before .args .desk .now) (c .before .before .before .before .before .before .before .before .before .before .before .before .before .before .before .before .before .before .before .before .before .before .args .prune) (c .before .before .before .before .before .before .before .before .before .before .before .before .before .before .before .before .before .before .before .before .before .before .args .x) (c .before .before .before .before .before .before .before .before .before .before .before .before .before .before .before .before .before .before .before .before .before .before .args .y) (c .before .before .before .before .before .before .before .before .before .before .before .before .before .before .before .before .before .before .before .before .before .before .args .ex .now) (c .before .before .before .before .before .before .before .before .before .before .before .before .before .before .before .before .before .before .before .before .before .before .args .ey .now) (c .before .before .before .before .before .before .before .before .before .before .before .before .before .before .before .before .before .before .before .before .before .before .args .lx .now) (c .before .before .before .before .before .before .before .before .before .before .before .before .before .before .before .before .before .before .before .before .before .before .args .ly .now) (c .before .before .before .before .before .before .before .before .before .before .before .before .before .before .before .before .before .before .before .before .before .before .args .kinds .now) (c .before .before .before .before .before .before .before .before .before .before .before .before .before .before .before .before .before .before .before .before .before .before .args .dirs .now) (c .before .before .before .before .before .before .before .before .before .before .before .before .before .before .before .before .before .before .before .before .before .before .pre .1 .0) _ _ _ _ _ _ _ _ (c .before .before .before .before .before .before .before .before .before .before .before .before .before .before .rows-of .ensures) (c .before .before .before .before .before .before .before .before .before .before .before .before .before .before .before .before .before .before .count-of .ensures) (c .before .before .before .before .before .before .before .before .before .before .before .before .before .rows-of2 .ensures) (c .before .before .before .before .before .before .before .before .before .before .before .before .before .before .before .before .before .count-of2 .ensures) (c .before .before .before .before .before .before .before .before .before .before .before .before .rows-of3 .ensures) (c .before .before .before .before .before .before .before .before .before .before .before .before .before .before .before .before .count-of3 .ensures) (c .before .before .before .before .before .before .before .before .before .before .before .rows-of4 .ensures) (c .before .before .before .before .before .before .before .before .before .before .before .before .before .before .before .count-of4 .ensures) _ _ _ _ _ _ (search needs) (search needs) (search needs) (search needs) (c .before .before .before .before .before .before .search-rows .ensures)
 
 pub search-valid-spec : {M : Type 1} → statement M
 search-valid-spec =
@@ -58,7 +58,7 @@ search-valid-spec =
     rows-of-requires-2
     rows-of-requires-3
     rows-of-requires-4
-    search-page-requires
+    search-rows-requires
     same-length
     same-length-2
     same-length-3

@@ -1,7 +1,7 @@
--- `desk_search::graph_of` meets its contract. The scratch has the sizes that are asked.
+-- `page_graph::graph_of` meets its contract. The scratch has the sizes that are asked.
 use borrow.Author.Needs.{needs}
-use Rattle.desk_search.proofs.graph_of.Statement.{statement}
-use Rattle.desk_search.proofs.graph_of.Tie as tie
+use Rattle.page_graph.proofs.graph_of.Statement.{statement}
+use Rattle.page_graph.proofs.graph_of.Tie as tie
 
 slice-aggregate-build : tie.Need-slice-aggregate-build
 slice-aggregate-build c = search needs
