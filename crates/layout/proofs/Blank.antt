@@ -7,7 +7,7 @@ use lib.IntN.{ℤ}
 use lib.ListN.{length, replicate}
 use Rattle.fixed.specs.Up.{BIAS, ups}
 use Rattle.fixed.proofs.Lists.{length-ups}
-use Rattle.graph.specs.Zeros.{closed}
+use Rattle.zeros.specs.Zeros.{closed}
 use Rattle.wire.specs.Wires.{Vertices, vertices}
 use Rattle.net.specs.Nets.{Net, net, refused}
 use Rattle.layout.specs.Layout.{Page, page, blank}

@@ -17,7 +17,9 @@ use Rattle.fixup.specs.Moves.{LOWEST, HIGHEST}
 use Rattle.page_laws.specs.Connected as Connected
 use Rattle.page_laws.specs.Connected.{Ground}
 use Rattle.page_laws.proofs.Ranges.{blank-page}
-use Rattle.layout.specs.Separated.{Separable, separated}
+use Rattle.page_laws.specs.Separated.{Separable}
+use Rattle.page_laws.proofs.Separate as Separate
+use Rattle.layout.specs.Separated.{separated}
 use Rattle.layout.specs.Layout.{Page, page, putNet, withNet, netOf, netsTo, blank, parted, drawn, Fit}
 use Rattle.layout.proofs.Nets.{nets-good}
 use Rattle.layout.proofs.Bounds.{connect-room}
@@ -64,10 +66,10 @@ module _ (G : Graph) (ground : Ground LOWEST HIGHEST G) (I E : List ℕ) (e nn a
       (omega (arith, length-replicate {A = ℕ} f 0))
 
   -- it can be separated
-  pub page-separable : (nets : List ℕ) (W : Vertices) (R : List ℕ) (j : ℕ) → page nets W R j ≡ netsTo G I E e nn (blank a b c d f) → Separable R j W
+  pub page-separable : (nets : List ℕ) (W : Vertices) (R : List ℕ) (j : ℕ) → page nets W R j ≡ netsTo G I E e nn (blank a b c d f) → Separable W (take (3 * j) R)
   page-separable nets W R j h =
       let p = subst (λ (Q : Page). Connected.Page LOWEST HIGHEST (Q .wires) (Q .joins) (Q .j)) (sym h) (nets-good G I E e LOWEST HIGHEST ground (blank a b c d f) blank-good nn) in
-      record { joined = p .good .joined; most = p .few; within-x = p .good .near-x; within-y = p .good .near-y }
+      Separate.page-separable LOWEST HIGHEST W R j p (omega arith) (omega arith)
 
 pub from-blank : (G : Graph) (I E : List ℕ) (e nn : ℕ) (P Q B : Page) → P ≡ B → Q ≡ netsTo G I E e nn P → Q ≡ netsTo G I E e nn B
 from-blank G I E e nn P Q B h q = rw (← h) q

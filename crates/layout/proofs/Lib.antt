@@ -4,3 +4,4 @@ pub mod Nets
 pub mod Rows
 pub mod Bounds
 pub mod Laying
+pub mod Ground

@@ -4,8 +4,8 @@ use mathlib.Core.List.{List, _++_}
 use Prim.Native.Nat.{ℕ, _*_, _≤_}
 use native.Mathlib.Omega.{arith}
 use lib.IntN.{ℤ}
-use lib.ListN.{length, getD, take, drop}
-use lib.Seq.{length-take-le, getD-take}
+use lib.ListN.{length, take, drop}
+use lib.Seq.{length-take-le}
 use Rattle.fixed.specs.Up.{ups}
 use Rattle.fixed.proofs.Lists.{ups-take, ups-drop}
 use Rattle.page_graph.proofs.Parts.{ups-append}
@@ -13,20 +13,17 @@ use Rattle.vertex.specs.Pages.{VERTICES, Joined, Within}
 use Rattle.wire.specs.Wires.{vertices}
 use Rattle.fixup.specs.Moves.{Places, places, LOWEST, HIGHEST}
 use Rattle.fixup.specs.Separation.{separateWires}
-use Rattle.layout.specs.Separated.{apart, separated, Separable}
-
-within-take : (lo hi n : ℕ) (l : List ℤ) → Within lo hi n (ups l) → Within lo hi n (ups (take n l))
-within-take lo hi n l w =
-    record { low = λ i h. rw (ups-take n l, getD-take n (ups l) i 0 h) (w .low i h); high = λ i h. rw (ups-take n l, getD-take n (ups l) i 0 h) (w .high i h) }
+use Rattle.page_laws.specs.Separated.{Separable}
+use Rattle.layout.specs.Separated.{apart, separated}
 
 -- what `separate_wires` asks of the parts
-pub separable : (x y : List ℤ) (K R : List ℕ) (n j : ℕ) → n ≤ length x → n ≤ length y → n ≤ length K → Separable R j (vertices (ups x) (ups y) K n)
+pub separable : (x y : List ℤ) (K R : List ℕ) (n j : ℕ) → n ≤ length x → n ≤ length y → Separable (vertices (ups x) (ups y) K n) (take (3 * j) R)
     → Joined (length (take n x)) (take (3 * j) R)
     × (((length (take n y) ≡ length (take n x)) × (length (take n x) ≤ length K) × (length (take n x) ≤ VERTICES))
     × (Within LOWEST HIGHEST (length (take n x)) (ups (take n x)) × Within LOWEST HIGHEST (length (take n x)) (ups (take n y))))
-separable x y K R n j hx hy hk s =
-    rw (length-take-le n x hx, length-take-le n y hy)
-    (s .joined, ((refl, hk, s .most), (within-take LOWEST HIGHEST n x (s .within-x), within-take LOWEST HIGHEST n y (s .within-y))))
+separable x y K R n j hx hy s =
+    rw (length-take-le n x hx, length-take-le n y hy, ups-take n x, ups-take n y)
+    (s .joined, ((refl, s .kinds-all, s .few), (s .near-x, s .near-y)))
 
 -- what it leaves: x1 and y1 are the parts after
 pub separated-is : (x y x1 y1 : List ℤ) (K R : List ℕ) (n j : ℕ)

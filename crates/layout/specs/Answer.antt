@@ -3,7 +3,7 @@ use mathlib.Core.Bool.{Bool, cond}
 use Prim.Native.Nat.{ℕ}
 use Rattle.anchors.specs.Records.{Records}
 use Rattle.page_graph.specs.Page.{crowded, page-graph}
-use Rattle.layout.specs.Layout.{Page, netsTo, parted}
+use Rattle.layout.specs.Layout.{Page, netsTo, drawn}
 
 -- layout's own number is 0 even if every net is refused
 unfoldable pub layoutNumber : Records → ℕ
@@ -14,7 +14,4 @@ unfoldable pub routed : Records → Bool → Page → Page
 routed r pruned P = netsTo (page-graph r pruned) (r .nets) (r .ends) (r .end-count) (r .net-count) P
 
 unfoldable pub layoutPage : Records → Bool → Bool → Page → Page
-layoutPage r pruned apart P =
-    let Q = routed r pruned P in
-    let done = cond apart (parted Q) Q in
-    cond (crowded r) P done
+layoutPage r pruned apart P = cond (crowded r) P (drawn apart (routed r pruned P))

@@ -1,22 +1,21 @@
 // All nets of a page: routed one after another on the page's graph, then separated.
 ghost use mathlib.Core.Path.{_≡_};
 ghost use Prim.Native.Nat.{_+_, _-_, _*_, _<_, _≤_};
-ghost use lib.ListN.{length};
+ghost use lib.ListN.{length, take};
 ghost use Rattle.fixed.specs.Up.{ups};
 ghost use Rattle.wire.specs.Wires.{vertices};
-ghost use Rattle.layout.specs.Separated.{separated, Separable};
+ghost use Rattle.layout.specs.Separated.{separated};
+ghost use Rattle.page_laws.specs.Separated.{Separable};
 ghost use Rattle.nodes.specs.Lent.{graph};
 ghost use Rattle.astar.specs.Reached.{Ready};
-ghost use Rattle.net.specs.Nets.{net, connectNet};
 ghost use Rattle.layout.specs.Layout.{NET-ROW, putNet, page, blank, netOf, withNet, netsTo, drawn, Fit};
 ghost use Rattle.fixup.specs.Moves.{LOWEST, HIGHEST};
 ghost use Rattle.page_laws.specs.Connected.{Ground};
-use net::Done;
 
 // Separates the wires of the first n vertices, with j junctions.
 fn separate(x: &mut [i32], y: &mut [i32], kinds: &[u8], n: usize, joins: &[u32], j: usize)
     requires { ⌜ (n ≤ length (now x)) × (n ≤ length (now y)) × (n ≤ length (now kinds)) × (3 * j ≤ length (now joins)) ⌝ }
-    requires { ⌜ Separable (now joins) j (vertices (ups (now x)) (ups (now y)) (now kinds) n) ⌝ }
+    requires { ⌜ Separable (vertices (ups (now x)) (ups (now y)) (now kinds) n) (take (3 * j) (now joins)) ⌝ }
     ensures { λ _. ⌜ vertices (ups (now (x .exit))) (ups (now (y .exit))) (now (kinds .entry)) n ≡ separated (now (joins .entry)) j (vertices (ups (now (x .entry))) (ups (now (y .entry))) (now (kinds .entry)) n) ⌝ }
 {
     fixup::separate_wires(&mut x[..n], &mut y[..n], kinds, &joins[..3 * j]);
@@ -35,10 +34,10 @@ fn put_net(nets: &mut [u32], i: usize, number: u32, first: u32, count: u32, begi
 }
 
 // Zeros everywhere: a page with no net.
-fn clear(nets: &mut [u32], x: &mut [i32], y: &mut [i32], letters: &mut [u8], joins: &mut [u32])
+pub fn clear(nets: &mut [u32], x: &mut [i32], y: &mut [i32], letters: &mut [u8], joins: &mut [u32])
     ensures { λ _. ⌜ page (now (nets .exit)) (vertices (ups (now (x .exit))) (ups (now (y .exit))) (now (letters .exit)) 0) (now (joins .exit)) 0 ≡ blank (length (now (nets .entry))) (length (now (x .entry))) (length (now (y .entry))) (length (now (letters .entry))) (length (now (joins .entry))) ⌝ }
 {
-    graph::zero_words(nets, 0);
+    zeros::zero_words(nets, 0);
     net::refuse(0, x, y, letters, 0, joins, 0);
 }
 
@@ -65,76 +64,6 @@ fn record_net(nets: &mut [u32], i: usize, number: u32, n: usize, m: usize, j: us
     ensures { λ _. ⌜ now (nets .exit) ≡ putNet (now (nets .entry)) i number n (m - n) j (k - j) ⌝ }
 {
     put_net(nets, i, number, n as u32, more(m, n), j as u32, more(k, j));
-}
-
-// One net on a built graph, with scratch of its own.
-fn route(
-    xs: &[i32],
-    ys: &[i32],
-    links: &[u32],
-    marks: &[u32],
-    n: usize,
-    px: &[u32],
-    py: &[u32],
-    x: &mut [i32],
-    y: &mut [i32],
-    letters: &mut [u8],
-    count: usize,
-    joins: &mut [u32],
-    j: usize,
-) -> Done
-    requires { ⌜ (0 < n → Ready (graph n (now xs) (now ys) (now links) (now marks))) ⌝ }
-    requires { ⌜ (length (now px) ≤ 256) × (length (now py) ≡ length (now px)) ⌝ }
-    requires { ⌜ (512 ≤ length (now x)) × (512 ≤ length (now y)) × (512 ≤ length (now letters)) × (768 ≤ length (now joins)) × (count ≤ 512) × (2 * j ≤ count) ⌝ }
-    ensures { λ r. ⌜ net (r .number) (vertices (ups (now (x .exit))) (ups (now (y .exit))) (now (letters .exit)) (r .n)) (now (joins .exit)) (r .j) ≡ connectNet (graph n (now (xs .entry)) (now (ys .entry)) (now (links .entry)) (now (marks .entry))) (now (px .entry)) (now (py .entry)) (vertices (ups (now (x .entry))) (ups (now (y .entry))) (now (letters .entry)) count) (now (joins .entry)) j ⌝ }
-{
-    let mut rows: [u32; 16384] = [0; 16384];
-    let mut ex: [i32; 4096] = [0; 4096];
-    let mut ey: [i32; 4096] = [0; 4096];
-    let mut lx: [i32; 4096] = [0; 4096];
-    let mut ly: [i32; 4096] = [0; 4096];
-    let mut kinds: [u8; 4096] = [0; 4096];
-    let mut ways: [u8; 4096] = [0; 4096];
-    let mut nodes: [u32; 4096] = [0; 4096];
-    let mut marked: [u8; 4096] = [0; 4096];
-    let mut kept: [u32; 4096] = [0; 4096];
-    let mut g: [u64; 4096] = [0; 4096];
-    let mut pred: [u32; 4096] = [0; 4096];
-    let mut queue: [u64; 4096] = [0; 4096];
-    let mut blocks: [u32; 64] = [0; 64];
-    let mut estimates: [u64; 4096] = [0; 4096];
-    let mut path: [u32; 4096] = [0; 4096];
-    connect::connect_net(
-        xs,
-        ys,
-        links,
-        marks,
-        n,
-        px,
-        py,
-        x,
-        y,
-        letters,
-        count,
-        &mut rows,
-        joins,
-        j,
-        &mut ex,
-        &mut ey,
-        &mut lx,
-        &mut ly,
-        &mut kinds,
-        &mut ways,
-        &mut nodes,
-        &mut marked,
-        &mut kept,
-        &mut g,
-        &mut pred,
-        &mut queue,
-        &mut blocks,
-        &mut estimates,
-        &mut path,
-    )
 }
 
 // Routes the net i, whose id is given, among ne ends, and writes its row.
@@ -165,7 +94,7 @@ fn lay_net(
     let mut px: [u32; 256] = [0; 256];
     let mut py: [u32; 256] = [0; 256];
     let k = net::take_points(ends, ne, id, &mut px, &mut py);
-    let r = route(
+    let r = connect::connect_net(
         xs,
         ys,
         links,

@@ -1,3 +1,4 @@
 mod Rows
 mod Nets
 pub mod Theorem
+pub mod Counts

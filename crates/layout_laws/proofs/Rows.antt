@@ -104,10 +104,10 @@ row-new R i A B h =
     }
 
 module _ (G : Graph) (I E : List ℕ) (e : ℕ) (P : Page) where
-  abbrev at : ℕ → Net
+  abbrev pub at : ℕ → Net
   at k = Nets.netsTo G (xs-of G I E e) (ys-of G I E e) k (P .wires) (P .joins) (P .j)
 
-  abbrev laid : ℕ → Page
+  abbrev pub laid : ℕ → Page
   laid k = netsTo G I E e k P
 
   next-is : (k : ℕ) → netOf G E e (getD I (k * NET) 0) (laid k) ≡ at (suc k)

@@ -11,15 +11,13 @@ use Rattle.anchors.specs.Records.{Records}
 use Rattle.page_graph.specs.Page.{crowded, page-graph}
 use Rattle.page_graph.specs.Lent.{Asked}
 use Rattle.page_graph.specs.Claims.{Placed}
-use Rattle.page_graph.proofs.Theorem.{page-sound}
-use Rattle.page_graph.proofs.Range.{page-ranged}
 use Rattle.page_laws.specs.Connected.{Ground}
 use Rattle.page_laws.specs.Connected as Connected
-use Rattle.page_laws.proofs.Ranges.{ranged-ground}
-use Rattle.layout.specs.Layout.{Page, netsTo, parted}
+use Rattle.layout.specs.Layout.{Page, netsTo, parted, drawn}
 use Rattle.layout.specs.Separated.{separated}
 use Rattle.layout.specs.Answer.{routed, layoutPage}
 use Rattle.layout.proofs.Nets.{nets-good}
+use Rattle.layout.proofs.Ground.{page-ground}
 use Rattle.layout_laws.specs.Laid.{LOW, HIGH, NetLaid, LaidOut, Ready, Layout}
 use Rattle.layout_laws.proofs.Nets.{nets-laid, separated-x, separated-y, parted-laid}
 
@@ -27,12 +25,10 @@ wider : {n : ℕ} (l : List ℕ) → Within LOW HIGH n l → Within (LOW - REACH
 wider l W = record { low = λ i h. omega (arith, W .low i h); high = λ i h. omega (arith, W .high i h) }
 
 module _ (r : Records) (pruned : Bool) (P : Page) (asked : Asked r) (placed : Placed r) (clear : crowded r ≡ false) (ready : Ready (r .net-count) P) where
-  ground : Ground LOW HIGH (page-graph r pruned)
-  ground =
-      let g = page-ranged r pruned asked placed clear in
-      ranged-ground LOW HIGH (omega arith) (page-graph r pruned) (page-sound r pruned clear .wf) (record { low = g .x-least; high = g .x-greatest }) (record { low = g .y-least; high = g .y-greatest })
+  pub ground : Ground LOW HIGH (page-graph r pruned)
+  ground = page-ground LOW HIGH (omega arith) (omega arith) (omega arith) r pruned asked placed clear
 
-  good : Connected.Page LOW HIGH (routed r pruned P .wires) (routed r pruned P .joins) (routed r pruned P .j)
+  pub good : Connected.Page LOW HIGH (routed r pruned P .wires) (routed r pruned P .joins) (routed r pruned P .j)
   unfolding routed
   good = nets-good (page-graph r pruned) (r .nets) (r .ends) (r .end-count) LOW HIGH ground P (ready .page) (r .net-count)
 
@@ -56,7 +52,7 @@ module _ (r : Records) (pruned : Bool) (P : Page) (asked : Asked r) (placed : Pl
       }
 
 pub laid-out : Layout
-unfolding layoutPage
+unfolding layoutPage drawn
 laid-out r pruned apart P asked placed clear ready = rw clear (by apart)
   where
     by : (b : Bool) → LaidOut r (cond b (parted (routed r pruned P)) (routed r pruned P))

@@ -11,7 +11,7 @@ use lib.Seq.{length-take-le, getD-take, take-at}
 use Rattle.fixed.specs.Up.{BIAS}
 use Rattle.nodes.specs.Chains.{Place}
 use Rattle.nodes.specs.Graph.{Graph}
-use Rattle.graph.specs.Zeros.{closed}
+use Rattle.zeros.specs.Zeros.{closed}
 use Rattle.path_finding.specs.Places.{known}
 use Rattle.vertex.specs.Kinds.{kindOf, start, end}
 use Rattle.vertex.specs.Pages.{holder, joiner, kindAt, Joined, Wired, Ended, Within}

@@ -5,7 +5,7 @@ use Rattle.layout.proofs.clear.Statement.{statement}
 use Rattle.layout.proofs.clear.Tie as tie
 use Rattle.layout.proofs.clear.Reads as reads
 use Rattle.layout.proofs.clear.Lts as lts
-use Rattle.graph.proofs.zero_words.Reads as zero-words-reads
+use Rattle.zeros.proofs.zero_words.Reads as zero-words-reads
 use Rattle.net.proofs.refuse.Reads as refuse-reads
 
 -- src/lib.rt:35:5

@@ -36,7 +36,7 @@ slice-aggregate-separate-wires-3 c = sym (length-take-le _ (c .before .before .b
 
 -- src/lib.rt:16:5
 separate-wires-requires : tie.Need-separate-wires-requires
-separate-wires-requires c κs = separable _ _ _ _ _ _ (omega arith) (omega arith) (omega arith) (c .before .before .before .before .before .pre .1)
+separate-wires-requires c κs = separable _ _ _ (c .before .before .before .before .before .args .joins .now) _ (c .before .before .before .before .before .args .j) (omega arith) (omega arith) (c .before .before .before .before .before .pre .1)
 
 -- src/lib.rt:11:1
 same-length : tie.Need-same-length
