@@ -1,4 +1,5 @@
--- Lists of calls with reading: the other calls go by the desk's proofs; a reading goes by the text and the sizes alone, and leaves the lists that were read.
+-- Lists of all calls: an edit goes by the desk's proofs; a reading goes by the text and the sizes alone, and leaves the lists that were read; a search and a layout
+-- go by the lists now and leave the desk as it was.
 --     acts      a desk acts as the book
 --     demand    the claim about all calls at once
 use mathlib.Core.Path.{_≡_, refl, sym, ap, _∙_}
@@ -23,13 +24,14 @@ use Rattle.desk.proofs.Demand.{Good, says-it, leaves-it, rebuilt as lists-rebui
 use Rattle.page_text.specs.Reading.{readText}
 use Rattle.page_text.specs.Words.{REFUSAL, isLent, readNumber, readWords, readRefusal, textWords}
 use Rattle.page_text.proofs.Turns.{decoded}
+use Rattle.page_text.proofs.Limits.{length-text, ok-text, none-ok, valid-lists}
 use Rattle.desk_search.specs.Query.{Query}
 use Rattle.desk_search.specs.Search.{Outputs as Line, says as searchSays, shows as searchShows}
 use Rattle.desk_search.proofs.Booked.{says-whole, shows-whole, same-search, same-shown}
-use Rattle.clue_desk.specs.Calls.{Call, Lent, Outputs, refused, lined, number, words, outputs, numberOf, outputsOf, after, run, isUndo, lent, enough, says, tells, makes, told, toldOutputs, turn, turns}
+use Rattle.desk_layout.proofs.Booked as Layout
+use Rattle.clue_desk.specs.Calls.{Call, Lent, Outputs, refused, lined, drawn, number, words, outputs, numberOf, outputsOf, after, run, isUndo, lent, enough, says, tells, makes, told, toldOutputs, turn, turns}
 use Rattle.clue_desk.specs.Calls.{ActsAsBook, rebuilt, Demand}
-use Rattle.clue_desk.specs.Calls.Call.{edit, read, search}
-use Rattle.clue_desk.proofs.Read.{length-text, ok-text, none-ok, valid-lists}
+use Rattle.clue_desk.specs.Calls.Call.{edit, read, search, layout}
 
 -- ---- one call on a whole desk
 module _ (ws : List ℕ) (g : Good ws) (n : ℕ) where
@@ -54,12 +56,14 @@ module _ (ws : List ℕ) (g : Good ws) (n : ℕ) where
   says-all (edit c) = says-it ws g (lent c n)
   says-all (read text out) = ap (λ (b : Bool). cond b (readText text .number) 1) (is-lent out)
   says-all (search q o) = says-whole ws n (g .long) o q
+  says-all (layout q d) = Layout.says-whole ws n (g .long) d q
 
   tells-all : (c : Call) → outputs c (take n ws) ≡ tells c n (bookOf ws)
   unfolding readRefusal
   tells-all (edit c) = refl
   tells-all (read text out) = rw (is-lent out)
   tells-all (search q o) = ap lined (shows-whole ws n (g .long) o q)
+  tells-all (layout q d) = ap drawn (Layout.shows-whole ws n (g .long) d q)
 
   -- what a reading leaves
   module _ (text : List ℕ) where
@@ -91,6 +95,7 @@ module _ (ws : List ℕ) (g : Good ws) (n : ℕ) where
   leaves-all (edit c) = leaves-it ws g (lent c n)
   leaves-all (read text out) = rw (is-lent out) (reads text out (enough n out) refl)
   leaves-all (search q o) = rw (take-append-drop n ws) (g, refl)
+  leaves-all (layout q d) = rw (take-append-drop n ws) (g, refl)
 
 -- ---- lists of calls
 good-after : (c : Lent) (ws : List ℕ) → Good ws → (Good (after c ws)) × (bookOf (after c ws) ≡ turn c (bookOf ws))
@@ -144,11 +149,13 @@ module _ (a b : Book) (v : valid a ≡ true) (w : valid b ≡ true) (e : a .list
   same-says (edit c) n u = ap (λ (m : ℕ). cond (leb DESK n) m 1) (same-edit c u)
   same-says (read text out) n u = refl
   same-says (search q o) n u = same-search a b v w e n o q
+  same-says (layout q d) n u = Layout.same-layout a b v w e n d q
 
   same-tells : (c : Call) (n : ℕ) → tells c n a ≡ tells c n b
   same-tells (edit c) n = refl
   same-tells (read text out) n = refl
   same-tells (search q o) n = ap lined (same-shown a b v w e n o q)
+  same-tells (layout q d) n = ap drawn (Layout.same-shown a b v w e n d q)
 
   same-told : (c : Lent) → isUndo (c .call) ≡ false → told c a ≡ told c b
   unfolding told

@@ -1,4 +1,3 @@
-pub mod Read
 pub mod Rest
 pub mod Demand
 mod Called

@@ -24,8 +24,8 @@ use Rattle.page_text.specs.Reading.{takes}
 use Rattle.page_text.specs.Words.{leaves, onwardWords, feedWords, textWords, isLent, readWords, REFUSAL}
 use Rattle.page_text.specs.declared.Step.{Step}
 use Rattle.page_text.specs.declared.Step.the-variants.{Went, Bad}
-use Rattle.page_text.proofs.Turns.{After, after}
-use Rattle.clue_desk.proofs.Read.{no-went, left-bad, step-0, answer-0}
+use Rattle.page_text.proofs.Turns.{After, after, bad-went, step-0, answer-0}
+use Rattle.page_text.proofs.Limits.{left-bad}
 
 behind : (l : List ℕ) (i : ℕ) → i < DESK → drop DESK (set l i 0) ≡ drop DESK l
 behind l i h = drop-set-lt DESK l i 0 h
@@ -55,7 +55,7 @@ module _ (k : Kind) (r : Record) (ws : List ℕ) (ready : Ready ws) (hw : length
 rest-line : (x : Line) (ws : List ℕ) → Ready ws → Wide x → takes x (listsOf (block ws)) ≡ Went → drop DESK (leaves x ws) ≡ drop DESK ws
 unfolding takes
 rest-line (entry k r) ws ready hw t = rest-taken k r ws ready hw (step-0 (takeNumber k r (listsOf (block ws))) t)
-rest-line malformed ws ready hw t = no-went 0 t
+rest-line malformed ws ready hw t = bad-went 0 t
 
 rest-feed : (ws : List ℕ) (xs : List Line) → Ready ws → AllWide xs → drop DESK (feedWords ws xs) ≡ drop DESK ws
 unfolding feedWords onwardWords

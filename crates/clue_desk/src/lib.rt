@@ -7,7 +7,9 @@ ghost use Rattle.clue_desk.specs.Calls.{number, words, outputs};
 ghost use Rattle.fixed.specs.Up.{up};
 ghost use Rattle.desk_search.specs.Query.{query};
 ghost use Rattle.desk_search.specs.Search.{outputs as line-of};
-ghost use Rattle.clue_desk.specs.Calls.Call.{edit, read, search as search-call};
+ghost use Rattle.page_layout.specs.Drawing.{drawing};
+ghost use Rattle.desk_layout.specs.Layout.{choice};
+ghost use Rattle.clue_desk.specs.Calls.Call.{edit, read, search as search-call, layout as layout-call};
 
 // Reads a page text: 0, or 16 with the 1-based line and the inner number, or 1 if the desk or the refusal's words are lent too small.
 #[no_mangle]
@@ -111,4 +113,24 @@ pub extern "C" fn search(
     ensures { λ _. ⌜ line-of (now (lx .exit)) (now (ly .exit)) (now (kinds .exit)) (now (dirs .exit)) ≡ outputs (search-call (query prune (up x) (up y) (now (ex .entry)) (now (ey .entry))) (line-of (now (lx .entry)) (now (ly .entry)) (now (kinds .entry)) (now (dirs .entry)))) (now (desk .entry)) .line ⌝ }
 {
     desk_search::search(desk, prune, x, y, ex, ey, lx, ly, kinds, dirs)
+}
+
+// All nets laid out, on the graph pruned (1) or not (0), the wires separated (1) or not (0). A net's row in nets is its number, its first vertex and how many, its
+// first junction and how many; the vertices' places and letters are in x, y and kinds; a junction's row in joins is its vertex, the end vertex that joins there and
+// its letter. Zeros stand behind them.
+#[no_mangle]
+pub extern "C" fn layout(
+    desk: &[u32],
+    prune: u32,
+    separate: u32,
+    nets: &mut [u32],
+    x: &mut [i32],
+    y: &mut [i32],
+    kinds: &mut [u8],
+    joins: &mut [u32],
+) -> u32
+    ensures { λ r. ⌜ r ≡ number (layout-call (choice prune separate) (drawing (now (nets .entry)) (now (x .entry)) (now (y .entry)) (now (kinds .entry)) (now (joins .entry)))) (now (desk .entry)) ⌝ }
+    ensures { λ _. ⌜ drawing (now (nets .exit)) (now (x .exit)) (now (y .exit)) (now (kinds .exit)) (now (joins .exit)) ≡ outputs (layout-call (choice prune separate) (drawing (now (nets .entry)) (now (x .entry)) (now (y .entry)) (now (kinds .entry)) (now (joins .entry)))) (now (desk .entry)) .drawing ⌝ }
+{
+    desk_layout::layout(desk, prune, separate, nets, x, y, kinds, joins)
 }

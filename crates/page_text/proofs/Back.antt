@@ -32,7 +32,7 @@ unfolding allFit
 fit-all [] f = refl
 fit-all (x ∷ r) f = rw (lt-ltb x BASE (f 0 (omega arith))) (fit-all r (λ i h. f (suc i) (omega arith)))
 
-id-fits : (v : ℕ) → okId v ≡ true → v < BASE
+pub id-fits : (v : ℕ) → okId v ≡ true → v < BASE
 unfolding okId
 id-fits v e = omega (arith, leb-true v IDS (and-right (leb 1 v) (leb v IDS) e))
 

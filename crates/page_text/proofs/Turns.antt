@@ -28,10 +28,10 @@ use Rattle.page_text.specs.declared.Step.the-variants.{Went, Bad}
 use Rattle.page_text.specs.declared.Stop.{Stop}
 
 -- ---- a line that goes
-bad-went : {A : Type 0} (n : ℕ) → Bad n ≡ Went → A
+pub bad-went : {A : Type 0} (n : ℕ) → Bad n ≡ Went → A
 bad-went n e = let z : _≡_ {A = ℕ} 0 1 = cc in absurd (omega arith)
 
-step-0 : (n : ℕ) → stepOf n ≡ Went → n ≡ 0
+pub step-0 : (n : ℕ) → stepOf n ≡ Went → n ≡ 0
 unfolding stepOf
 step-0 n e = go (eqb n 0) refl e
   where
@@ -39,9 +39,9 @@ step-0 n e = go (eqb n 0) refl e
     go true q e = eqb-true n 0 q
     go false q e = bad-went n e
 
-answer-0 : (b : Bool) (n : ℕ) → answer true b n ≡ 0 → n ≡ 0
+pub answer-0 : (f : Bool) (n : ℕ) → answer true f n ≡ 0 → (f ≡ true) × (n ≡ 0)
 unfolding answer
-answer-0 true n e = e
+answer-0 true n e = (refl, e)
 answer-0 false n e = absurd (omega arith)
 
 -- its record has room in its list
@@ -50,7 +50,7 @@ module _ (k : Kind) (r : Record) (ws : List ℕ) (e : takeNumber k r (listsOf (b
   unfolding takeNumber
   has-room =
       room-0 k (block ws)
-      (room-of k (block ws) (key r) (addNumber k (listsOf (block ws)) (key r)) refl (answer-0 (okRecord k r) (addNumber k (listsOf (block ws)) (key r)) e))
+      (room-of k (block ws) (key r) (addNumber k (listsOf (block ws)) (key r)) refl (answer-0 (okRecord k r) (addNumber k (listsOf (block ws)) (key r)) e .1))
 
   is-taken : leaves (entry k r) ws ≡ taken k r ws
   unfolding leaves at0
@@ -89,7 +89,7 @@ total-with Kind.Port r l = rw (length-append (l .ports) (r ∷ [])) (omega arith
 total-with Kind.Net r l = rw (length-append (l .nets) (r ∷ [])) (omega arith)
 total-with Kind.End r l = rw (length-append (l .ends) (r ∷ [])) (omega arith)
 
-total-adds : (x : Line) (l : Lists) → takes x l ≡ Went → total (adds x l) ≡ total l + 1
+pub total-adds : (x : Line) (l : Lists) → takes x l ≡ Went → total (adds x l) ≡ total l + 1
 unfolding adds takes
 total-adds (entry k r) l e = total-with k r l
 total-adds malformed l e = bad-went 0 e

@@ -1,14 +1,14 @@
 -- The statements about reading, each proved in proofs/.
-use Prim.Native.Nat.{ℕ, _+_, _≤_}
+use Prim.Native.Nat.{ℕ, _+_, _*_, _≤_}
 use mathlib.Core.Path.{_≡_}
 use mathlib.Core.List.{List, [], _∷_, _++_}
 use mathlib.Core.Bool.{true}
-use lib.ListN.{length}
+use lib.ListN.{length, take}
 use Rattle.desk.specs.Sizes.{DESK}
 use Rattle.desk.specs.Book.{Lists, noLists, okLists}
 use Rattle.desk.specs.Desk.{bookOf}
 use Rattle.page_line.specs.Records.{Line}
-use Rattle.page_line.specs.Lines.{textLines}
+use Rattle.page_line.specs.Lines.{LINE, textLines}
 use Rattle.page_text.specs.Reading.{takes, adds, accepted, refused, readText, pageText}
 use Rattle.page_text.specs.Words.{textWords}
 use Rattle.page_text.specs.declared.Step.the-variants.{Went, Bad}
@@ -54,3 +54,10 @@ Decoded = (text ws : List ℕ) → DESK ≤ length ws → bookOf (textWords text
 -- what is written of valid lists is read back
 abbrev pub RoundTrip : Type 0
 RoundTrip = (l : Lists) → okLists l ≡ true → readText (pageText l) ≡ accepted l
+
+-- 01, 'Limits': at most 640 records fit, and a line has at most 64 bytes, so that what stands behind 641 such lines has no say
+abbrev pub TEXT : ℕ
+TEXT = 641 * LINE
+
+abbrev pub Decides : Type 0
+Decides = (text : List ℕ) → readText (take TEXT text) ≡ readText text

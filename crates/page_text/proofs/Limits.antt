@@ -3,10 +3,8 @@ use mathlib.Core.Path.{_≡_, refl, sym, ap, _∙_}
 use mathlib.Core.List.{List, [], _∷_}
 use mathlib.Core.Bool.{Bool, true, false, cond}
 use Prim.Native.Nat.{ℕ, _+_, _≤_}
-use native.Mathlib.Omega.{arith}
 use lib.ListN.{length}
 use lib.Dec.{eqb}
-use borrow.Author.Tests.{eqb-true}
 use Rattle.rows.specs.Rows.{key, scan}
 use Rattle.desk.specs.Sizes.{DESK}
 use Rattle.desk.specs.Book.{Lists, noLists, okRecord, okLists, okOwners, okMembers, okCopy, valid, answer, addNumber, takeNumber}
@@ -16,23 +14,20 @@ use Rattle.desk.proofs.Keeps
 use Rattle.page_line.specs.Records.{Line, entry, malformed}
 use Rattle.page_line.specs.Lines.{textLines}
 use Rattle.page_line.proofs.Wide.{AllWide, wide-lines}
 use Rattle.page_text.specs.Reading.{stepOf, takes, adds, onward, feed, readText}
 use Rattle.page_text.specs.Words.{leaves, onwardWords, feedWords, textWords}
 use Rattle.page_text.specs.declared.Step.{Step}
 use Rattle.page_text.specs.declared.Step.the-variants.{Went, Bad}
-use Rattle.page_text.proofs.Turns.{After, after}
+use Rattle.page_text.proofs.Turns.{After, after, bad-went, step-0, answer-0}
 
 -- ---- the length
-pub no-went : {A : Type 0} (n : ℕ) → Bad n ≡ Went → A
-no-went n e = let z : _≡_ {A = ℕ} 0 1 = cc in absurd (omega arith)
-
 -- a line that stops the reading leaves the words as they were
 pub left-bad : (x : Line) (ws : List ℕ) (n : ℕ) → takes x (listsOf (block ws)) ≡ Bad n → leaves x ws ≡ ws
 unfolding takes leaves stepOf at0
 left-bad (entry k r) ws n e = go (eqb (takeNumber k r (listsOf (block ws))) 0) e
   where
     go : (b : Bool) → cond b Went (Bad (takeNumber k r (listsOf (block ws)))) ≡ Bad n → cond b (taken k r ws) ws ≡ ws
-    go true e = no-went n (sym e)
+    go true e = bad-went n (sym e)
     go false e = refl
 left-bad malformed ws n e = refl
 
@@ -51,25 +46,12 @@ unfolding textWords
 length-text text ws h = length-feed (emptied ws) (textLines text) (ready-emptied ws h) (wide-lines text) ∙ length-emptied ws
 
 -- ---- the limits
-pub step-0 : (n : ℕ) → stepOf n ≡ Went → n ≡ 0
-unfolding stepOf
-step-0 n e = go (eqb n 0) refl e
-  where
-    go : (b : Bool) → eqb n 0 ≡ b → cond b Went (Bad n) ≡ Went → n ≡ 0
-    go true q e = eqb-true n 0 q
-    go false q e = no-went n e
-
-pub answer-0 : (f : Bool) (n : ℕ) → answer true f n ≡ 0 → (f ≡ true) × (n ≡ 0)
-unfolding answer
-answer-0 true n e = (refl, e)
-answer-0 false n e = absurd (omega arith)
-
-ok-adds : (x : Line) (l : Lists) → okLists l ≡ true → takes x l ≡ Went → okLists (adds x l) ≡ true
+pub ok-adds : (x : Line) (l : Lists) → okLists l ≡ true → takes x l ≡ Went → okLists (adds x l) ≡ true
 unfolding takes adds takeNumber
 ok-adds (entry k r) l ok e =
     let p = answer-0 (okRecord k r) (addNumber k l (key r)) (step-0 (takeNumber k r l) e) in
     Keeps.ok-with l ok k r (p .0) (p .1)
-ok-adds malformed l ok e = no-went 0 e
+ok-adds malformed l ok e = bad-went 0 e
 
 pub none-ok : okLists noLists ≡ true
 unfolding scan okLists okOwners okMembers

@@ -1,0 +1,3 @@
+pub mod Booked
+mod Outputs
+pub mod Call
