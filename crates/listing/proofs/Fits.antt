@@ -27,12 +27,12 @@ unfolding netLine
 net-line a b c d ha hb hc hd =
     omega (arith, net-room (110 ∷ 101 ∷ 116 ∷ []) (digits a) (digits b) (digits c) (digits d), length-append (field (digits a)) (field (digits b)), length-append (field (digits c)) (field (digits d)), digits-width a ha, digits-width b hb, digits-width c hc, digits-width d hd)
 
-vertex-line : (xs ys kinds : List ℕ) (first k : ℕ) → Words xs → Words ys → k < BASE → length (vertexLine xs ys kinds first k) ≤ VERTEX-BYTES
+vertex-line : (xs ys kinds : List ℕ) (first k : ℕ) → getD xs (first + k) 0 < BASE → getD ys (first + k) 0 < BASE → k < BASE → length (vertexLine xs ys kinds first k) ≤ VERTEX-BYTES
 unfolding vertexLine
 vertex-line xs ys kinds first k wx wy hk =
     let x = getD xs (first + k) 0 in
     let y = getD ys (first + k) 0 in
-    omega (arith, vertex-room (118 ∷ []) (digits k) (signed x) (signed y) (getD kinds (first + k) 0), length-append (field (signed x)) (field (signed y)), digits-width k hk, signed-width x (wx (first + k)), signed-width y (wy (first + k)))
+    omega (arith, vertex-room (118 ∷ []) (digits k) (signed x) (signed y) (getD kinds (first + k) 0), length-append (field (signed x)) (field (signed y)), digits-width k hk, signed-width x wx, signed-width y wy)
 
 join-line : (v e l : ℕ) → v < BASE → e < BASE → length (joinLine v e l) ≤ JUNCTION-BYTES
 unfolding joinLine
@@ -100,17 +100,19 @@ module _ (js : List ℕ) (first begin : ℕ) (wj : Words js) where
 
 -- ---- all nets
 
-pub record Fit (p : Page) : Type 0 where
+-- the vertices of the first n nets are among the first m, whose coordinates are words of 32 bits
+pub record Fit (p : Page) (n m : ℕ) : Type 0 where
   pub nets-fit : Words (p .nets)
   pub ids-fit : Words (p .ids)
-  pub xs-fit : Words (p .xs)
-  pub ys-fit : Words (p .ys)
+  pub inside : (i : ℕ) → i < n → getD (p .nets) (i * NET + 1) 0 + getD (p .nets) (i * NET + 2) 0 ≤ m
+  pub xs-fit : (k : ℕ) → k < m → getD (p .xs) k 0 < BASE
+  pub ys-fit : (k : ℕ) → k < m → getD (p .ys) k 0 < BASE
   pub joins-fit-words : Words (p .junctions)
 
-module _ (p : Page) (h : Fit p) where
-  net-fits : (i : ℕ) → length (netAt p i) ≤ roomAt (p .nets) i
+module _ (p : Page) (n m : ℕ) (h : Fit p n m) where
+  net-fits : (i : ℕ) → i < n → length (netAt p i) ≤ roomAt (p .nets) i
   unfolding netAt netPart roomAt
-  net-fits i =
+  net-fits i few-nets =
       let id = getD (p .ids) i 0 in
       let number = getD (p .nets) (i * NET) 0 in
       let first = getD (p .nets) (i * NET + 1) 0 in
@@ -119,15 +121,15 @@ module _ (p : Page) (h : Fit p) where
       let joins = getD (p .nets) (i * NET + 4) 0 in
       let few : count < BASE = h .nets-fit (i * NET + 2) in
       let a = net-line id number count joins (h .ids-fit i) (h .nets-fit (i * NET)) few (h .nets-fit (i * NET + 4)) in
-      let b = pieces-fit (vertexLine (p .xs) (p .ys) (p .kinds) first) VERTEX-BYTES count (λ k l. vertex-line (p .xs) (p .ys) (p .kinds) first k (h .xs-fit) (h .ys-fit) (omega arith)) in
+      let b = pieces-fit (vertexLine (p .xs) (p .ys) (p .kinds) first) VERTEX-BYTES count (λ k l. vertex-line (p .xs) (p .ys) (p .kinds) first k (h .xs-fit (first + k) (omega (arith, h .inside i few-nets))) (h .ys-fit (first + k) (omega (arith, h .inside i few-nets))) (omega arith)) in
       let d = joins-fit (p .junctions) first begin (h .joins-fit-words) joins count (omega arith) in
       omega (arith, a, b, d, three (netLine id number count joins) (upTo (vertexLine (p .xs) (p .ys) (p .kinds) first) count) (upTo (joinsOf (p .junctions) first begin joins) count))
 
-  nets-fit : (n : ℕ) → length (upTo (netAt p) n) ≤ room (p .nets) n
+  nets-fit : (k : ℕ) → k ≤ n → length (upTo (netAt p) k) ≤ room (p .nets) k
   unfolding upTo room
-  nets-fit zero = omega arith
-  nets-fit (suc n) = omega (arith, length-append (upTo (netAt p) n) (netAt p n), nets-fit n, net-fits n)
+  nets-fit zero l = omega arith
+  nets-fit (suc k) l = omega (arith, length-append (upTo (netAt p) k) (netAt p k), nets-fit k (omega arith), net-fits k l)
 
-  pub listing-fits : (n : ℕ) → length (listing p n) ≤ room (p .nets) n
+  pub listing-fits : length (listing p n) ≤ room (p .nets) n
   unfolding listing
-  listing-fits n = nets-fit n
+  listing-fits = nets-fit n (omega arith)

@@ -3,10 +3,10 @@
 mod corridor;
 mod dump;
 mod page;
+mod printed;
 mod query;
 mod section;
 mod tally;
-mod text;
 
 use tally::Verdict;
 ghost use Prim.Native.Nat.{_≤_, _<_};
@@ -31,22 +31,6 @@ fn note(
     }
     tally::count(tally, tally::WRONG, 1);
     section::tell(list, page, at);
-}
-
-// Counts a search.
-fn note_search(
-    tally: &mut [u64; tally::KINDS],
-    s: query::Searched,
-    list: &[u8],
-    page: usize,
-    at: usize,
-)
-    requires { ⌜ (page ≤ length (now list)) × (at ≤ length (now list)) ⌝ }
-{
-    match s {
-        query::Searched::Compared(v) => note(tally, tally::SEARCHES, v, list, page, at),
-        query::Searched::Passed => tally::count(tally, tally::REFUSED_SEARCHES, 1),
-    }
 }
 
 // Compares a section of a page that was read with what the page's records give.
@@ -78,8 +62,13 @@ fn compare(
         return;
     }
     if vector_list::is_word(list, at, b"search") {
-        let s = query::search(desk, list, at, &list[start..end]);
-        note_search(tally, s, list, page, at);
+        let v = query::search(desk, list, at, &list[start..end]);
+        note(tally, tally::SEARCHES, v, list, page, at);
+        return;
+    }
+    if vector_list::is_word(list, at, b"wires") {
+        let v = printed::wires(list, page, at, &list[start..end]);
+        note(tally, tally::LISTINGS, v, list, page, at);
         return;
     }
     tally::count(tally, tally::PASSED, 1);
@@ -105,7 +94,7 @@ fn replay_section(
         return;
     }
     if refusal[0] != 0 {
-        let v = text::refused_is(&list[start..end], refusal[0], refusal[1]);
+        let v = printed::wires(list, page, at, &list[start..end]);
         note(tally, tally::REFUSED, v, list, page, at);
         return;
     }
@@ -127,29 +116,51 @@ fn replay(desk: &mut [u32], refusal: &mut [u32], tally: &mut [u64; tally::KINDS]
     }
 }
 
+// Prints how many of a kind were compared, with how many entries.
+fn report_kind(tally: &[u64; tally::KINDS], kind: usize, what: &[u8], entries: &[u8])
+    requires { ⌜ kind < 15 ⌝ }
+{
+    tally::print(tally, kind, what);
+    tally::print(tally, kind + 1, entries);
+}
+
 // Prints what was compared.
 fn report(tally: &[u64; tally::KINDS]) {
     tally::print(tally, tally::PAGES, b" pages read\n");
-    tally::print(tally, tally::REFUSED, b" refused texts compared\n");
-    tally::print(
+    report_kind(
         tally,
         tally::ANCHOR_LISTS,
         b" lists of implicit anchors compared, with ",
+        b" anchors\n",
     );
-    tally::print(tally, tally::ANCHORS, b" anchors\n");
-    tally::print(tally, tally::GRAPHS, b" graphs compared, with ");
-    tally::print(tally, tally::NODES, b" nodes\n");
+    report_kind(
+        tally,
+        tally::GRAPHS,
+        b" graphs compared, with ",
+        b" nodes\n",
+    );
     tally::print(
         tally,
         tally::COUNTS,
         b" counts of anchors and nodes compared\n",
     );
-    tally::print(tally, tally::SEARCHES, b" searches compared, with ");
-    tally::print(tally, tally::LINE_NODES, b" nodes\n");
-    tally::print(
+    report_kind(
         tally,
-        tally::REFUSED_SEARCHES,
-        b" searches passed over, with places out of range or too many ends\n",
+        tally::SEARCHES,
+        b" searches compared, with ",
+        b" nodes\n",
+    );
+    report_kind(
+        tally,
+        tally::LISTINGS,
+        b" listings compared, with ",
+        b" bytes\n",
+    );
+    report_kind(
+        tally,
+        tally::REFUSED,
+        b" refused texts compared, with ",
+        b" bytes\n",
     );
     tally::print(tally, tally::PASSED, b" sections passed over\n");
     tally::print(tally, tally::WRONG, b" sections differ\n");

@@ -10,8 +10,6 @@ ghost use Rattle.desk.specs.Sizes.{DESK};
 ghost use Rattle.desk.specs.Book.{valid};
 ghost use Rattle.desk.specs.Desk.{bookOf};
 ghost use Rattle.nodes.specs.Lent.{Roomy};
-ghost use Rattle.anchors.specs.Records.{records};
-ghost use Rattle.page_graph.specs.Lent.{Asked};
 
 // Compares the implicit anchors.
 pub fn anchors(desk: &[u32], bytes: &[u8]) -> Verdict
@@ -41,68 +39,10 @@ pub fn anchors(desk: &[u32], bytes: &[u8]) -> Verdict
 }
 
 // Whether the desk is valid.
-pub fn is_valid(desk: &[u32]) -> bool
+fn is_valid(desk: &[u32]) -> bool
     ensures { λ r. ⌜ (r ≡ true → valid (bookOf (now (desk .entry))) ≡ true) ⌝ }
 {
     desk::validate(desk) == 0
-}
-
-// The graph of a page's records: how many nodes it has, or page_graph::CROWDED.
-fn build(
-    boxes: &[u32],
-    nb: usize,
-    ports: &[u32],
-    np: usize,
-    nets: &[u32],
-    nn: usize,
-    ends: &[u32],
-    ne: usize,
-    pruned: bool,
-    xs: &mut [i32],
-    ys: &mut [i32],
-    links: &mut [u32],
-    marks: &mut [u32],
-) -> usize
-    requires { ⌜ Asked (records (now boxes) nb (now ports) np (now nets) nn (now ends) ne) ⌝ }
-    requires { ⌜ Roomy (now xs) (now ys) (now links) (now marks) ⌝ }
-{
-    let mut bx = [0i32; 64];
-    let mut by = [0i32; 64];
-    let mut ex = [0i32; 64];
-    let mut ey = [0i32; 64];
-    let mut cx = [0i32; 2560];
-    let mut cy = [0i32; 2560];
-    let mut dirs = [0u32; 2560];
-    let mut own = [0u32; 2560];
-    let mut table = [0u32; 8255];
-    let mut ax = [0i32; 2560];
-    let mut ay = [0i32; 2560];
-    page_graph::build(
-        boxes,
-        nb,
-        ports,
-        np,
-        nets,
-        nn,
-        ends,
-        ne,
-        pruned,
-        &mut bx,
-        &mut by,
-        &mut ex,
-        &mut ey,
-        &mut cx,
-        &mut cy,
-        &mut dirs,
-        &mut own,
-        &mut table,
-        &mut ax,
-        &mut ay,
-        xs,
-        ys,
-        links,
-        marks,
-    )
 }
 
 // The graph of a desk's page: how many nodes it has, or page_graph::CROWDED, also where the desk is not valid.
@@ -128,7 +68,7 @@ fn graph_of(
     let nn = select::count_of(desk, desk::Kind::Net);
     let ends = select::rows_of(desk, desk::Kind::End);
     let ne = select::count_of(desk, desk::Kind::End);
-    build(
+    page_graph::graph_of(
         boxes,
         nb,
         ports,

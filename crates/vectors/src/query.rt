@@ -1,15 +1,8 @@
-use path_finding::Answer;
+use crate::tally::Verdict;
 use vector_list::Match;
 
 // Reads the places of a search from its header, searches, and compares the answer's lines.
-ghost use mathlib.Core.Path.{_≡_};
-ghost use mathlib.Core.Bool.{true};
-ghost use Rattle.desk.specs.Sizes.{DESK};
-ghost use Rattle.anchors.specs.Records.{records};
-ghost use Rattle.nodes.specs.Lent.{Roomy};
-ghost use Rattle.page_graph.specs.Lent.{Asked};
-ghost use Rattle.search.specs.Searched.{Ended};
-ghost use Prim.Native.Nat.{_+_, _*_, _≤_, _<_};
+ghost use Prim.Native.Nat.{_≤_, _<_};
 ghost use lib.ListN.{length};
 
 // A word's number, signed.
@@ -86,9 +79,9 @@ pub fn answer_is(
     m.ok & (m.next == list.len())
 }
 
-// A search's header: pruned or not, the start, the count of its ends, and the first end's place in the list.
+// A search's header: pruned (1) or not (0), the start, the count of its ends, and the first end's place in the list.
 pub struct Query {
-    pub pruned: bool,
+    pub prune: u32,
     pub x: i32,
     pub y: i32,
     pub ends: usize,
@@ -106,7 +99,7 @@ pub fn read_query(list: &[u8], at: usize) -> Query
     let y = vector_list::field(list, x.next);
     let n = vector_list::field(list, y.next);
     Query {
-        pruned: crate::section::unsigned(prune.word) == 1,
+        prune: crate::section::unsigned(prune.word),
         x: signed(x.word),
         y: signed(y.word),
         ends: crate::section::unsigned(n.word) as usize,
@@ -114,165 +107,34 @@ pub fn read_query(list: &[u8], at: usize) -> Query
     }
 }
 
-// Whether a coordinate is one of a page.
-fn is_field(u: u32) -> bool {
-    (fixed::LEAST <= u) & (u <= fixed::GREATEST)
-}
+// The most ends of a search in the list: one more than a search takes.
+const ENDS: usize = 4097;
 
-// Whether all coordinates are those of a page.
-pub fn are_fields(us: &[i32]) -> bool {
+// How many nodes a line has: its last one alone has the kind E; 0 where there is none.
+fn nodes_of(kinds: &[u8]) -> usize
+    ensures { λ r. ⌜ r ≤ length (now (kinds .entry)) ⌝ }
+{
     let mut i = 0;
-    while i < us.len() {
-        if !is_field(fixed::at(us, i)) {
-            return false;
+    while i < kinds.len() {
+        if kinds[i] == b'E' {
+            return i + 1;
         }
         i += 1;
     }
-    true
+    0
 }
 
-// A search on a page's records.
-fn search_page(
-    boxes: &[u32],
-    nb: usize,
-    ports: &[u32],
-    np: usize,
-    nets: &[u32],
-    nn: usize,
-    ends: &[u32],
-    ne: usize,
-    pruned: bool,
-    x: u32,
-    y: u32,
-    ex: &[i32],
-    ey: &[i32],
-    lx: &mut [i32],
-    ly: &mut [i32],
-    kinds: &mut [u8],
-    dirs: &mut [u8],
-) -> Answer
-    requires { ⌜ Asked (records (now boxes) nb (now ports) np (now nets) nn (now ends) ne) ⌝ }
-    requires { ⌜ Ended (now ex) (now ey) × (4096 ≤ length (now lx)) × (4096 ≤ length (now ly)) ⌝ }
-{
-    let mut cx = [0i32; 2560];
-    let mut cy = [0i32; 2560];
-    let mut ways = [0u32; 4096];
-    let mut own = [0u32; 4096];
-    let mut table = [0u32; 8255];
-    let mut xs = [0i32; 4096];
-    let mut ys = [0i32; 4096];
-    let mut links = [0u32; 16384];
-    let mut marks = [0u32; 4096];
-    let mut marked = [0u8; 4096];
-    let mut g = [0u64; 4096];
-    let mut queue = [0u64; 4096];
-    let mut estimates = [0u64; 4096];
-    let mut path = [0u32; 4096];
-    page_search::search_rows(
-        boxes,
-        nb,
-        ports,
-        np,
-        nets,
-        nn,
-        ends,
-        ne,
-        pruned,
-        x,
-        y,
-        ex,
-        ey,
-        lx,
-        ly,
-        kinds,
-        dirs,
-        &mut cx,
-        &mut cy,
-        &mut ways,
-        &mut own,
-        &mut table,
-        &mut xs,
-        &mut ys,
-        &mut links,
-        &mut marks,
-        &mut marked,
-        &mut g,
-        &mut queue,
-        &mut estimates,
-        &mut path,
-    )
-}
-
-// A search on a desk's page; 2 where the desk is not valid or the ends are not as they should be.
-fn search_desk(
-    desk: &[u32],
-    pruned: bool,
-    x: u32,
-    y: u32,
-    ex: &[i32],
-    ey: &[i32],
-    lx: &mut [i32],
-    ly: &mut [i32],
-    kinds: &mut [u8],
-    dirs: &mut [u8],
-) -> Answer
-    requires { ⌜ (DESK ≤ length (now desk)) × (4096 ≤ length (now lx)) × (4096 ≤ length (now ly)) ⌝ }
-{
-    let refused = Answer {
-        number: 2,
-        nodes: 0,
-    };
-    if !crate::page::is_valid(desk) {
-        return refused;
-    }
-    if ex.len() != ey.len() {
-        return refused;
-    }
-    if 4096 < ex.len() {
-        return refused;
-    }
-    let boxes = select::rows_of(desk, desk::Kind::Box);
-    let nb = select::count_of(desk, desk::Kind::Box);
-    let ports = select::rows_of(desk, desk::Kind::Port);
-    let np = select::count_of(desk, desk::Kind::Port);
-    let nets = select::rows_of(desk, desk::Kind::Net);
-    let nn = select::count_of(desk, desk::Kind::Net);
-    let ends = select::rows_of(desk, desk::Kind::End);
-    let ne = select::count_of(desk, desk::Kind::End);
-    search_page(
-        boxes,
-        nb,
-        ports,
-        np,
-        nets,
-        nn,
-        ends,
-        ne,
-        pruned,
-        x,
-        y,
-        ex,
-        ey,
-        lx,
-        ly,
-        kinds,
-        dirs,
-    )
-}
-
-// Compares a search between n ends with its answer.
-fn compare(desk: &[u32], q: Query, ex: &[i32], ey: &[i32], bytes: &[u8]) -> crate::tally::Verdict
-    requires { ⌜ DESK ≤ length (now desk) ⌝ }
-{
-    let mut lx = [0i32; 4096];
-    let mut ly = [0i32; 4096];
-    let mut kinds = [0u8; 4096];
-    let mut dirs = [0u8; 4096];
-    let a = search_desk(
+// Compares a search on the desk with its answer.
+fn compare(desk: &[u32], q: Query, ex: &[i32], ey: &[i32], bytes: &[u8]) -> Verdict {
+    let mut lx: [i32; 4096] = [0; 4096];
+    let mut ly: [i32; 4096] = [0; 4096];
+    let mut kinds: [u8; 4096] = [0; 4096];
+    let mut dirs: [u8; 4096] = [0; 4096];
+    let number = desk_search::search(
         desk,
-        q.pruned,
-        fixed::up(q.x),
-        fixed::up(q.y),
+        q.prune,
+        q.x,
+        q.y,
         ex,
         ey,
         &mut lx,
@@ -280,55 +142,35 @@ fn compare(desk: &[u32], q: Query, ex: &[i32], ey: &[i32], bytes: &[u8]) -> crat
         &mut kinds,
         &mut dirs,
     );
-    let n = a.nodes;
-    if 4096 < n {
-        return crate::tally::Verdict {
-            ok: false,
-            entries: 0,
-        };
-    }
-    crate::tally::Verdict {
-        ok: answer_is(bytes, a.number, n, &lx, &ly, &kinds, &dirs),
+    let n = nodes_of(&kinds);
+    Verdict {
+        ok: answer_is(bytes, number, n, &lx, &ly, &kinds, &dirs),
         entries: n,
     }
 }
 
-// What a search came to: compared, or passed over, since what it is asked is refused before a page is searched.
-pub enum Searched {
-    Compared(crate::tally::Verdict),
-    Passed,
-}
-
-// Compares the search between the first ends.
-fn between(desk: &[u32], q: Query, ex: &[i32], ey: &[i32], bytes: &[u8]) -> Searched
-    requires { ⌜ (DESK ≤ length (now desk)) × (4096 ≤ length (now ex)) × (4096 ≤ length (now ey)) ⌝ }
+// Compares the search with the first ends.
+fn with_ends(desk: &[u32], q: Query, ex: &[i32], ey: &[i32], bytes: &[u8]) -> Verdict
+    requires { ⌜ (q .ends ≤ length (now ex)) × (q .ends ≤ length (now ey)) ⌝ }
 {
     let n = q.ends;
-    if 4096 < n {
-        return Searched::Passed;
-    }
-    if !are_fields(&ex[..n]) {
-        return Searched::Passed;
-    }
-    if !are_fields(&ey[..n]) {
-        return Searched::Passed;
-    }
-    Searched::Compared(compare(desk, q, &ex[..n], &ey[..n], bytes))
+    compare(desk, q, &ex[..n], &ey[..n], bytes)
 }
 
 // Compares the search whose header stands at `at`.
-pub fn search(desk: &[u32], list: &[u8], at: usize, bytes: &[u8]) -> Searched
-    requires { ⌜ (DESK ≤ length (now desk)) × (at ≤ length (now list)) ⌝ }
+pub fn search(desk: &[u32], list: &[u8], at: usize, bytes: &[u8]) -> Verdict
+    requires { ⌜ at ≤ length (now list) ⌝ }
 {
     let q = read_query(list, at);
-    if 4096 < q.ends {
-        return Searched::Passed;
+    let n = q.ends;
+    if ENDS < n {
+        return Verdict {
+            ok: false,
+            entries: 0,
+        };
     }
-    if !(is_field(fixed::up(q.x)) & is_field(fixed::up(q.y))) {
-        return Searched::Passed;
-    }
-    let mut ex = [0i32; 4096];
-    let mut ey = [0i32; 4096];
-    read_ends(list, q.next, q.ends, &mut ex, &mut ey);
-    between(desk, q, &ex, &ey, bytes)
+    let mut ex: [i32; ENDS] = [0; ENDS];
+    let mut ey: [i32; ENDS] = [0; ENDS];
+    read_ends(list, q.next, n, &mut ex, &mut ey);
+    with_ends(desk, q, &ex, &ey, bytes)
 }

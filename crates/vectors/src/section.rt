@@ -78,13 +78,21 @@ pub fn page_of(list: &[u8], at: usize, page: usize) -> usize
     page
 }
 
-// Whether the first field behind the header's word is 1.
+// Whether the field behind the one at `at` is 1: the first one behind a header's word.
 pub fn flag(list: &[u8], at: usize) -> bool
     requires { ⌜ at ≤ length (now list) ⌝ }
 {
     let word = vector_list::field(list, at);
     let first = vector_list::field(list, word.next);
     unsigned(first.word) == 1
+}
+
+// Whether the field behind that one is 1.
+pub fn second_flag(list: &[u8], at: usize) -> bool
+    requires { ⌜ at ≤ length (now list) ⌝ }
+{
+    let word = vector_list::field(list, at);
+    flag(list, word.next)
 }
 
 // Writes the field at `at`, and the place behind it.

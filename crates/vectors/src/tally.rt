@@ -5,8 +5,6 @@ pub const KINDS: usize = 16;
 
 pub const PAGES: usize = 0;
 
-pub const REFUSED: usize = 1;
-
 pub const ANCHOR_LISTS: usize = 2;
 
 pub const ANCHORS: usize = 3;
@@ -21,7 +19,13 @@ pub const SEARCHES: usize = 8;
 
 pub const LINE_NODES: usize = 9;
 
-pub const REFUSED_SEARCHES: usize = 10;
+pub const LISTINGS: usize = 10;
+
+pub const LISTED_BYTES: usize = 11;
+
+pub const REFUSED: usize = 12;
+
+pub const REFUSED_BYTES: usize = 13;
 
 pub const PASSED: usize = 14;
 

@@ -35,8 +35,8 @@ rows-of-requires-4 c κs = (c .before .before .before .before .before .before .b
 count-of-requires-4 : tie.Need-count-of-requires-4
 count-of-requires-4 c κs = search needs
 
-build-requires : tie.Need-build-requires
-build-requires c κs =
+graph-of-requires : tie.Need-graph-of-requires
+graph-of-requires c κs =
     (asked-of (c .before .before .before .before .before .before .before .before .before .before .before .before .before .before .before .before .before .args .desk .now) (c .before .before .before .before .before .before .before .before .before .before .before .before .before .is-valid .ensures (not-false _ (c .before .before .before .before .before .before .before .before .before .before .before .before .if1 .left))) _ _ _ _ _ _ _ _ (c .before .before .before .before .before .before .before .before .before .before .before .rows-of .ensures) (c .before .before .before .before .before .before .before .before .before .before .count-of .ensures) (c .before .before .before .before .before .before .before .before .before .rows-of2 .ensures) (c .before .before .before .before .before .before .before .before .count-of2 .ensures) (c .before .before .before .before .before .before .before .rows-of3 .ensures) (c .before .before .before .before .before .before .count-of3 .ensures) (c .before .before .before .before .before .rows-of4 .ensures) (c .before .before .before .before .count-of4 .ensures), c .before .before .before .before .before .before .before .before .before .before .before .before .before .before .before .before .before .pre .1)
 
 same-length : tie.Need-same-length
@@ -68,7 +68,7 @@ graph-of-spec =
     count-of-requires-3
     rows-of-requires-4
     count-of-requires-4
-    build-requires
+    graph-of-requires
     same-length
     same-length-2
     same-length-3

@@ -2,24 +2,23 @@
 use Prim.Native.Nat.{_≤_, _-_}
 use lib.ListN.{length}
 use borrow.Author.Needs.{needs}
-use Rattle.vectors.proofs.query.are_fields.Statement.{statement}
-use Rattle.vectors.proofs.query.are_fields.Tie as tie
+use Rattle.vectors.proofs.query.nodes_of.Statement.{statement}
+use Rattle.vectors.proofs.query.nodes_of.Tie as tie
 
 abbrev Inv-loop : tie.InvT-loop
-Inv-loop us i₀ i =
-    i ≤ length us
+Inv-loop kinds i₀ i = i ≤ length kinds
 
 abbrev μ-loop : tie.MeasureT-loop
-μ-loop us i₀ i = length us - i
+μ-loop kinds i₀ i = length kinds - i
 
 loop-holds : tie.Need-loop-holds Inv-loop μ-loop
 loop-holds c = search needs
 
-at-requires : tie.Need-at-requires Inv-loop μ-loop
-at-requires c κs = search needs
+shared-slice-read-if1 : tie.Need-shared-slice-read-if1 Inv-loop μ-loop
+shared-slice-read-if1 c = search needs
 
-is-field-requires : tie.Need-is-field-requires Inv-loop μ-loop
-is-field-requires c κs = search needs
+add-result : tie.Need-add-result Inv-loop μ-loop
+add-result c = search needs
 
 returns : tie.Need-returns Inv-loop μ-loop
 returns c = search needs
@@ -36,15 +35,15 @@ loop-again c = search needs
 returns-2 : tie.Need-returns-2 Inv-loop μ-loop
 returns-2 c = search needs
 
-pub are-fields-spec : {M : Type 1} → statement M
-are-fields-spec =
+pub nodes-of-spec : {M : Type 1} → statement M
+nodes-of-spec =
     tie.close
     (tie.spec
     Inv-loop
     μ-loop
     loop-holds
-    at-requires
-    is-field-requires
+    shared-slice-read-if1
+    add-result
     returns
     add-i
     loop-less

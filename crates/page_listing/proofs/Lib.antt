@@ -1,0 +1,5 @@
+pub mod Room
+pub mod Laid
+pub mod Read
+pub mod Decides
+pub mod Cases

@@ -1,0 +1,4 @@
+pub mod Printed
+pub mod Fits
+pub mod Claims
+pub mod Cases
