@@ -123,6 +123,16 @@ pub fn fixed_list() -> Vec<u8> {
     recorder.list
 }
 
+/// A list of sequences from `count` seeds, for comparisons at scale.
+pub fn generated_list(first: u64, count: u64) -> Vec<u8> {
+    let mut recorder = Recorder::default();
+    for seed in first..first + count {
+        random_sequence(&mut recorder, &mut Random::new(seed));
+        text_sequence(&mut recorder, &mut Random::new(seed));
+    }
+    recorder.list
+}
+
 fn sequences() -> Vec<Vec<Call>> {
     vec![
         vec![Call::Undo],

@@ -1,6 +1,7 @@
 //! The Rust as oracle: page texts in, document 01's answers out, with lists of fixed answers.
 
 pub mod call_list;
+pub mod compare;
 pub mod desk;
 pub mod digest;
 pub mod layer;

@@ -6,7 +6,7 @@ use oracle::page::Page;
 use oracle::page_list::{self, Detail};
 use oracle::page_text;
 use oracle::pages::{self, Kind};
-use oracle::{call_list, digest, listing};
+use oracle::{call_list, compare, digest, listing};
 use std::io::{self, Read, Write};
 use std::process::ExitCode;
 use std::{env, fs, panic};
@@ -19,6 +19,7 @@ const USAGE: &str = "usage: oracle COMMAND
   page KIND SEED                                   a generated page
   list FIRST COUNT [listing|wires|graphs]          generated pages with their answers
   digest FIRST COUNT                               a digest of all answers on generated pages
+  compare PROGRAM FIRST COUNT                      what PROGRAM prints for generated pages, beside `wires`
   make FOLDER                                      write the fixed lists
   check FOLDER                                     make them again and compare";
 
@@ -68,6 +69,7 @@ fn run(arguments: &[&str], switches: &[&str]) -> Result<Vec<u8>, String> {
             let digest = digest::digest(number(first)? as u64, number(count)? as u64);
             Ok(digest.to_string().into_bytes())
         }
+        ["compare", program, first, count] => compare_with(program, first, count),
         ["make", folder] => make(folder),
         ["check", folder] => check(folder),
         _ => Err(USAGE.into()),
@@ -113,6 +115,17 @@ fn list(first: &str, count: &str, detail: &[&str]) -> Result<Vec<u8>, String> {
     };
     let (first, count) = (number(first)? as u64, number(count)? as u64);
     Ok(page_list::generated_list(first, count, detail))
+}
+
+fn compare_with(program: &str, first: &str, count: &str) -> Result<Vec<u8>, String> {
+    let (first, count) = (number(first)? as u64, number(count)? as u64);
+    let compared = compare::compare(program, first, count)
+        .map_err(|error| format!("cannot run {program}: {error}"))?;
+    if compared.differing.is_empty() {
+        Ok(compared.to_string().into_bytes())
+    } else {
+        Err(compared.to_string())
+    }
 }
 
 fn fixed_lists() -> [(&'static str, Vec<u8>); 2] {

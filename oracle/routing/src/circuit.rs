@@ -84,8 +84,13 @@ impl Circuit {
 
     pub fn build_graph(&self, prune: bool) -> Graph {
         let mut graph = Graph::default();
-        graph.build(&RelationsItem::new(&self.children), &self.tree, prune);
+        self.rebuild_graph(&mut graph, prune);
         graph
+    }
+
+    /// Builds the graph in one that was built before, as the Rust's own caller does.
+    pub fn rebuild_graph(&self, graph: &mut Graph, prune: bool) {
+        graph.build(&RelationsItem::new(&self.children), &self.tree, prune);
     }
 
     /// Routes one net; its vertices stay in the circuit.
@@ -120,6 +125,21 @@ impl Circuit {
     }
 }
 
+/// The Rust's path finder, with the maps and the queue that it uses again.
+#[derive(Default)]
+pub struct Finder(PathFinder);
+
+impl Finder {
+    pub fn find_path_multi(
+        &mut self,
+        graph: &Graph,
+        start: Vec2,
+        ends: impl Iterator<Item = Vec2>,
+    ) -> PathFindResult {
+        self.0.find_path_multi(graph, start, ends)
+    }
+}
+
 pub fn find_path(graph: &Graph, start: Vec2, end: Vec2) -> PathFindResult {
     PathFinder::default().find_path(graph, start, end)
 }
@@ -129,5 +149,5 @@ pub fn find_path_multi(
     start: Vec2,
     ends: impl Iterator<Item = Vec2>,
 ) -> PathFindResult {
-    PathFinder::default().find_path_multi(graph, start, ends)
+    Finder::default().find_path_multi(graph, start, ends)
 }

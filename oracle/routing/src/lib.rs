@@ -8,7 +8,7 @@ mod circuit;
 mod query;
 mod shims;
 
-pub use circuit::{find_path, find_path_multi, Circuit, Step};
+pub use circuit::{find_path, find_path_multi, Circuit, Finder, Step};
 pub use graph::{Graph, Node};
 pub use path_finding::{Path, PathFindResult, PathNode, PathNodeKind};
 pub use routing::RoutingError;

@@ -9,6 +9,7 @@ mod short;
 
 pub use damaged::malformations;
 pub use limits::limits;
+pub use realistic::realistic_of;
 pub use samples::samples;
 pub use short::short;
 

@@ -14,6 +14,27 @@ pub fn realistic(random: &mut Random) -> Lists {
     let mut lists = Lists::default();
     let squares = (random.between(6, 12), random.between(6, 14));
     add_boxes_round(&mut lists, squares, random);
+    with_nets(lists, squares, random)
+}
+
+/// A realistic page of that many boxes, on a field of squares that grows with them.
+pub fn realistic_of(boxes: usize, random: &mut Random) -> Lists {
+    let side = boxes as i64;
+    loop {
+        let squares = (
+            random.between(side, side + side / 2),
+            random.between(side, side + side / 2),
+        );
+        let mut lists = Lists::default();
+        add_boxes_round(&mut lists, squares, random);
+        if lists.boxes.len() == boxes {
+            return with_nets(lists, squares, random);
+        }
+    }
+}
+
+/// Ports on the boxes, and nets from them to squares.
+fn with_nets(mut lists: Lists, squares: (i64, i64), random: &mut Random) -> Lists {
     for b in lists.boxes.clone() {
         for _ in 0..random.between(1, 3) {
             add_port_on_edge(&mut lists, &b, random);

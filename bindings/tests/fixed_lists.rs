@@ -1,0 +1,33 @@
+//! The oracle's fixed lists through the wrapper.
+
+mod replay;
+
+use std::fs;
+use std::path::Path;
+
+fn list(name: &str) -> Vec<u8> {
+    let path = Path::new(env!("CARGO_MANIFEST_DIR"))
+        .join("../crates")
+        .join(name);
+    fs::read(&path).unwrap_or_else(|error| panic!("{}: {error}", path.display()))
+}
+
+#[test]
+fn calls() {
+    let done = replay::Calls {
+        calls: 20_135,
+        lists: 1_030,
+    };
+    assert_eq!(replay::calls(&list("calls/stdin")), done);
+}
+
+#[test]
+fn pages() {
+    let done = replay::Pages {
+        pages: 657,
+        refused: 148,
+        listings: 1_369,
+        searches: 2_302,
+    };
+    assert_eq!(replay::pages(&list("vectors/data/pages.txt")), done);
+}
