@@ -6,15 +6,16 @@ use lib.IntN.{ℤ}
 use lib.ListN.{length, take}
 use lib.Seq.{length-take-le}
 use borrow.Author.Needs.{needs}
+use Rattle.axis.proofs.Axis.{none-strict}
 use Rattle.graph.proofs.Wholes.{axis-rising, axis-is, whole-by}
 use Rattle.graph.proofs.whole.Statement.{statement}
 use Rattle.graph.proofs.whole.Tie as tie
 
 axis-of-requires : tie.Need-axis-of-requires
-axis-of-requires c κs = search needs
+axis-of-requires c κs = (omega arith, omega arith, none-strict)
 
 axis-of-requires-2 : tie.Need-axis-of-requires-2
-axis-of-requires-2 c κs = search needs
+axis-of-requires-2 c κs = (omega arith, omega arith, none-strict)
 
 slice-reshare-prefix-build : tie.Need-slice-reshare-prefix-build
 slice-reshare-prefix-build c = search needs

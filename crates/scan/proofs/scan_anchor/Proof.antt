@@ -13,10 +13,10 @@ look-up-requires : tie.Need-look-up-requires
 look-up-requires c κs = (search needs, c .before .before .before .before .before .before .pre .1 .1 .1 .mapped (c .before .before .before .before .before .before .pre .1 .1 .0))
 
 index-requires : tie.Need-index-requires
-index-requires c κs = search needs
+index-requires c κs = record { ordered = c .before .before .before .before .before .before .before .pre .0 .x-rising .rising }
 
 index-requires-2 : tie.Need-index-requires-2
-index-requires-2 c κs = search needs
+index-requires-2 c κs = record { ordered = c .before .before .before .before .before .before .before .before .pre .0 .y-rising .rising }
 
 scans-requires : tie.Need-scans-requires
 scans-requires c κs = (c .before .before .before .before .before .before .before .before .before .before .before .before .before .before .before .before .before .pre .0, (c .before .before .before .before .before .before .before .before .before .before .before .before .before .before .before .before .before .pre .1 .0, (omega arith, c .before .before .before .before .before .before .before .before .before .before .before .before .before .before .before .before .before .pre .1 .1 .1)))
