@@ -16,11 +16,11 @@ pub record Estimated (n : ℕ) (xs ys es estimates : List ℕ) : Type 0 where
   pub each : (v : ℕ) → v < n → (getD estimates v 0 ≡ UNSET) ⊎ (getD estimates v 0 ≡ nearest xs ys es v)
 
 -- the lists of a search of n nodes
-pub record Held (n : ℕ) (xs ys es g p q blocks estimates : List ℕ) : Type 0 where
+pub record Held (n : ℕ) (xs ys es g p q tree estimates : List ℕ) : Type 0 where
   pub g-long : length g ≡ n
   pub p-long : length p ≡ n
   pub q-long : length q ≡ n
-  pub index : Indexed q blocks
+  pub index : Indexed q tree
   pub known : Estimated n xs ys es estimates
 
 -- the ends are marked 1, other nodes 0

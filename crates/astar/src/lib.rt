@@ -9,7 +9,7 @@ ghost use lib.Dec.{eqb};
 ghost use mathlib.Core.List.{reverse};
 ghost use Rattle.fixed.specs.Up.{ups};
 ghost use Rattle.queue.specs.Queue.{UNSET, NODES};
-ghost use Rattle.queue.specs.Index.{BLOCKS, Indexed};
+ghost use Rattle.queue.specs.Index.{Indexed};
 ghost use Rattle.nodes.specs.Graph.{none, opposite};
 ghost use Rattle.nodes.specs.Lent.{graph};
 ghost use Rattle.astar.specs.Search.{DIRECTIONS, FAR, HIGH, MOVES, distance as distanceS, nearest, toward, arrives, arrival, run-length, penalty-at as penaltyS, st, replaced, relax as relaxS, expand as expandS, begin as beginS, search, found-of, chain};
@@ -224,21 +224,21 @@ fn improve(
     g: &mut [u64],
     pred: &mut [u32],
     queue: &mut [u64],
-    blocks: &mut [u32],
+    tree: &mut [u64],
     estimates: &mut [u64],
     u: usize,
     v: usize,
     score: u64,
 )
     requires { ⌜ (u < n) × (v < n) × (n ≤ NODES) × (n ≤ length (now xs)) × (n ≤ length (now ys)) × Below n (now ends) × (score ≤ HIGH + HIGH + FAR) ⌝ }
-    requires { ⌜ Held n (take n (ups (now xs))) (take n (ups (now ys))) (now ends) (now g) (now pred) (now queue) (now blocks) (now estimates) ⌝ }
+    requires { ⌜ Held n (take n (ups (now xs))) (take n (ups (now ys))) (now ends) (now g) (now pred) (now queue) (now tree) (now estimates) ⌝ }
     ensures { λ _. ⌜ st (now (g .exit)) (now (pred .exit)) (now (queue .exit)) ≡ replaced (take n (ups (now (xs .entry)))) (take n (ups (now (ys .entry)))) (now (ends .entry)) (st (now (g .entry)) (now (pred .entry)) (now (queue .entry))) v u score ⌝ }
-    ensures { λ _. ⌜ Held n (take n (ups (now (xs .entry)))) (take n (ups (now (ys .entry)))) (now (ends .entry)) (now (g .exit)) (now (pred .exit)) (now (queue .exit)) (now (blocks .exit)) (now (estimates .exit)) ⌝ }
+    ensures { λ _. ⌜ Held n (take n (ups (now (xs .entry)))) (take n (ups (now (ys .entry)))) (now (ends .entry)) (now (g .exit)) (now (pred .exit)) (now (queue .exit)) (now (tree .exit)) (now (estimates .exit)) ⌝ }
 {
     let e = estimate_once(xs, ys, n, ends, estimates, v);
     g[v] = score;
     pred[v] = u as u32;
-    queue::put(queue, blocks, v, score + e);
+    queue::put(queue, tree, v, score + e);
 }
 
 // Where a move from the node u in the direction dir leads, or NONE: going back is not tried.
@@ -263,7 +263,7 @@ fn relax(
     g: &mut [u64],
     pred: &mut [u32],
     queue: &mut [u64],
-    blocks: &mut [u32],
+    tree: &mut [u64],
     estimates: &mut [u64],
     u: usize,
     dir: usize,
@@ -272,9 +272,9 @@ fn relax(
 )
     requires { ⌜ Ready (graph n (now xs) (now ys) (now links) (now marks)) ⌝ }
     requires { ⌜ (u < n) × (dir < DIRECTIONS) × (arrived ≤ DIRECTIONS) × (pen ≤ HIGH) × (getD (now g) u 0 ≤ HIGH) × Below n (now ends) ⌝ }
-    requires { ⌜ Held n (take n (ups (now xs))) (take n (ups (now ys))) (now ends) (now g) (now pred) (now queue) (now blocks) (now estimates) ⌝ }
+    requires { ⌜ Held n (take n (ups (now xs))) (take n (ups (now ys))) (now ends) (now g) (now pred) (now queue) (now tree) (now estimates) ⌝ }
     ensures { λ _. ⌜ st (now (g .exit)) (now (pred .exit)) (now (queue .exit)) ≡ relaxS (graph n (now (xs .entry)) (now (ys .entry)) (now (links .entry)) (now (marks .entry))) (now (ends .entry)) (st (now (g .entry)) (now (pred .entry)) (now (queue .entry))) u dir arrived pen ⌝ }
-    ensures { λ _. ⌜ Held n (take n (ups (now (xs .entry)))) (take n (ups (now (ys .entry)))) (now (ends .entry)) (now (g .exit)) (now (pred .exit)) (now (queue .exit)) (now (blocks .exit)) (now (estimates .exit)) ⌝ }
+    ensures { λ _. ⌜ Held n (take n (ups (now (xs .entry)))) (take n (ups (now (ys .entry)))) (now (ends .entry)) (now (g .exit)) (now (pred .exit)) (now (queue .exit)) (now (tree .exit)) (now (estimates .exit)) ⌝ }
 {
     let w = target(links, n, u, dir, arrived);
     if w == NONE {
@@ -293,7 +293,7 @@ fn relax(
         g,
         pred,
         queue,
-        blocks,
+        tree,
         estimates,
         u,
         v,
@@ -312,15 +312,15 @@ fn expand(
     g: &mut [u64],
     pred: &mut [u32],
     queue: &mut [u64],
-    blocks: &mut [u32],
+    tree: &mut [u64],
     estimates: &mut [u64],
     u: usize,
 )
     requires { ⌜ Ready (graph n (now xs) (now ys) (now links) (now marks)) ⌝ }
     requires { ⌜ (u < n) × (getD (now g) u 0 ≤ HIGH) × ((getD (now pred) u 0 ≡ none → ⊥) → getD (now pred) u 0 < n) × Below n (now ends) ⌝ }
-    requires { ⌜ Held n (take n (ups (now xs))) (take n (ups (now ys))) (now ends) (now g) (now pred) (now queue) (now blocks) (now estimates) ⌝ }
+    requires { ⌜ Held n (take n (ups (now xs))) (take n (ups (now ys))) (now ends) (now g) (now pred) (now queue) (now tree) (now estimates) ⌝ }
     ensures { λ _. ⌜ st (now (g .exit)) (now (pred .exit)) (now (queue .exit)) ≡ expandS (graph n (now (xs .entry)) (now (ys .entry)) (now (links .entry)) (now (marks .entry))) (now (ends .entry)) (st (now (g .entry)) (now (pred .entry)) (now (queue .entry))) u ⌝ }
-    ensures { λ _. ⌜ Held n (take n (ups (now (xs .entry)))) (take n (ups (now (ys .entry)))) (now (ends .entry)) (now (g .exit)) (now (pred .exit)) (now (queue .exit)) (now (blocks .exit)) (now (estimates .exit)) ⌝ }
+    ensures { λ _. ⌜ Held n (take n (ups (now (xs .entry)))) (take n (ups (now (ys .entry)))) (now (ends .entry)) (now (g .exit)) (now (pred .exit)) (now (queue .exit)) (now (tree .exit)) (now (estimates .exit)) ⌝ }
 {
     let arrived = arrival(links, n, pred, u);
     let pen = penalty_at(xs, ys, links, marks, n, pred, u, arrived);
@@ -336,7 +336,7 @@ fn expand(
             g,
             pred,
             queue,
-            blocks,
+            tree,
             estimates,
             u,
             d,
@@ -359,16 +359,16 @@ fn fill(s: &mut [u32], v: u32)
 }
 
 // Before the first turn: only the start has a score and a queue entry, both 0, and no estimate is known.
-fn begin(g: &mut [u64], pred: &mut [u32], queue: &mut [u64], blocks: &mut [u32], start: usize)
-    requires { ⌜ (start < length (now queue)) × (length (now g) ≡ length (now queue)) × (length (now pred) ≡ length (now queue)) × (length (now queue) ≤ NODES) × (BLOCKS ≤ length (now blocks)) ⌝ }
+fn begin(g: &mut [u64], pred: &mut [u32], queue: &mut [u64], tree: &mut [u64], start: usize)
+    requires { ⌜ (start < length (now queue)) × (length (now g) ≡ length (now queue)) × (length (now pred) ≡ length (now queue)) × (length (now queue) ≤ NODES) × (2 * length (now queue) ≤ length (now tree)) ⌝ }
     ensures { λ _. ⌜ st (now (g .exit)) (now (pred .exit)) (now (queue .exit)) ≡ beginS (length (now (queue .entry))) start ⌝ }
-    ensures { λ _. ⌜ Indexed (now (queue .exit)) (now (blocks .exit)) ⌝ }
+    ensures { λ _. ⌜ Indexed (now (queue .exit)) (now (tree .exit)) ⌝ }
 {
     queue::fill(g, UNSET);
     fill(pred, NONE);
-    queue::clear(queue, blocks);
+    queue::clear(queue, tree);
     g[start] = 0;
-    queue::put(queue, blocks, start, 0);
+    queue::put(queue, tree, start, 0);
 }
 
 // The search from the node `start`: the first end that leaves the queue, or nothing.
@@ -383,19 +383,19 @@ pub fn find_path_impl(
     g: &mut [u64],
     pred: &mut [u32],
     queue: &mut [u64],
-    blocks: &mut [u32],
+    tree: &mut [u64],
     estimates: &mut [u64],
     start: usize,
 ) -> Found
     requires { ⌜ Ready (graph n (now xs) (now ys) (now links) (now marks)) ⌝ }
-    requires { ⌜ (length (now g) ≡ n) × (length (now pred) ≡ n) × (length (now queue) ≡ n) × (length (now estimates) ≡ n) × (BLOCKS ≤ length (now blocks)) × (start < n) × Below n (now ends) × Marked n (now ends) (now marked) ⌝ }
+    requires { ⌜ (length (now g) ≡ n) × (length (now pred) ≡ n) × (length (now queue) ≡ n) × (length (now estimates) ≡ n) × (2 * n ≤ length (now tree)) × (start < n) × Below n (now ends) × Marked n (now ends) (now marked) ⌝ }
     ensures { λ r. ⌜ (r ≡ found-of (search (graph n (now (xs .entry)) (now (ys .entry)) (now (links .entry)) (now (marks .entry))) (now (ends .entry)) start .at)) × (st (now (g .exit)) (now (pred .exit)) (now (queue .exit)) ≡ search (graph n (now (xs .entry)) (now (ys .entry)) (now (links .entry)) (now (marks .entry))) (now (ends .entry)) start .end) ⌝ }
 {
-    begin(g, pred, queue, blocks, start);
+    begin(g, pred, queue, tree, start);
     queue::fill(estimates, UNSET);
     let mut found = Found::Nothing;
     'outer: loop {
-        let top = queue::pop_least(queue, blocks);
+        let top = queue::pop_least(queue, tree);
         match top {
             Popped::Empty => {
                 break 'outer;
@@ -415,7 +415,7 @@ pub fn find_path_impl(
                     g,
                     pred,
                     queue,
-                    blocks,
+                    tree,
                     estimates,
                     u,
                 );

@@ -9,7 +9,6 @@ ghost use lib.ListN.{length, getD, set, replicate, take, drop};
 ghost use lib.Dec.{eqb};
 ghost use Rattle.fixed.specs.Up.{BIAS, up, ups};
 ghost use Rattle.queue.specs.Queue.{NODES};
-ghost use Rattle.queue.specs.Index.{BLOCKS};
 ghost use Rattle.nodes.specs.Graph.{none};
 ghost use Rattle.nodes.specs.Lent.{graph};
 ghost use Rattle.nodes.specs.Map.{Apart, Mapped};
@@ -26,7 +25,7 @@ const NONE: u32 = 0xFFFF_FFFF;
 const ZERO: u32 = 2147483648;
 
 // So many ends are looked up without a map.
-const FEW: usize = 16;
+const FEW: usize = 40;
 
 const START: u8 = 83;
 
@@ -377,13 +376,13 @@ pub fn find_line(
     g: &mut [u64],
     pred: &mut [u32],
     queue: &mut [u64],
-    blocks: &mut [u32],
+    tree: &mut [u64],
     estimates: &mut [u64],
     path: &mut [u32],
 ) -> usize
     requires { ⌜ Ready (graph n (now xs) (now ys) (now links) (now marks)) ⌝ }
     requires { ⌜ (start < n) × Below n (now ends) × (length (now ends) ≤ length (now kept)) ⌝ }
-    requires { ⌜ Lent n (now marked) (now g) (now pred) (now queue) (now blocks) (now estimates) (now path) ⌝ }
+    requires { ⌜ Lent n (now marked) (now g) (now pred) (now queue) (now tree) (now estimates) (now path) ⌝ }
     ensures { λ r. ⌜ (r ≤ n) × (drop r (now (path .exit)) ≡ lineS (graph n (now (xs .entry)) (now (ys .entry)) (now (links .entry)) (now (marks .entry))) (now (ends .entry)) start) ⌝ }
 {
     unmark(marked);
@@ -402,7 +401,7 @@ pub fn find_line(
         g,
         pred,
         queue,
-        blocks,
+        tree,
         estimates,
         start,
     );
@@ -473,13 +472,13 @@ pub fn find_between(
     g: &mut [u64],
     pred: &mut [u32],
     queue: &mut [u64],
-    blocks: &mut [u32],
+    tree: &mut [u64],
     estimates: &mut [u64],
     path: &mut [u32],
 ) -> Answer
     requires { ⌜ Ready (graph n (now xs) (now ys) (now links) (now marks)) ⌝ }
     requires { ⌜ (length (now ey) ≡ length (now ex)) × (length (now ex) ≤ length (now ends)) × (length (now ex) ≤ length (now kept)) ⌝ }
-    requires { ⌜ Lent n (now marked) (now g) (now pred) (now queue) (now blocks) (now estimates) (now path) ⌝ }
+    requires { ⌜ Lent n (now marked) (now g) (now pred) (now queue) (now tree) (now estimates) (now path) ⌝ }
     ensures { λ r. ⌜ Answered (graph n (now (xs .entry)) (now (ys .entry)) (now (links .entry)) (now (marks .entry))) x y (ups (now (ex .entry))) (ups (now (ey .entry))) (r .number) (r .nodes) (now (path .exit)) ⌝ }
 {
     let start = nodes::find_node(xs, ys, n, x, y);
@@ -509,7 +508,7 @@ pub fn find_between(
         g,
         pred,
         queue,
-        blocks,
+        tree,
         estimates,
         path,
     );

@@ -1,2 +1,3 @@
 pub mod Ranges
 mod Steps
+mod Tournament

@@ -1,28 +1,21 @@
 // The priority queue of the search: one entry a node, behind one contract (pop the first least entry; replace an entry).
-// `blocks` says for each 64 entries where their first least one stands, so that neither looks at all entries.
+// `tree` is a tournament of the entries' keys, so that neither looks at all entries.
 ghost use mathlib.Core.Path.{_≡_};
-ghost use Prim.Native.Nat.{ℕ, _+_, _*_, _≤_, _<_};
+ghost use Prim.Native.Nat.{ℕ, _+_, _*_, _≤_, _<_, min};
 ghost use lib.ListN.{length, getD, set, replicate};
-ghost use Rattle.queue.specs.Queue.{NODES, UNSET, least as leastS, top as topS, popped, after-pop};
-ghost use Rattle.queue.specs.Index.{BLOCK, BLOCKS, LeastIn, Indexed, Stored, block-end};
+ghost use Rattle.queue.specs.Queue.{NODES, UNSET, top as topS, popped, after-pop};
+ghost use Rattle.queue.specs.Index.{LeastIn, Tree, Indexed, key as keyS};
 
 pub const NODES: usize = 4096;
 
 pub const UNSET: u64 = 18446744073709551615;
 
-pub const BLOCK: usize = 64;
-
-pub const BLOCKS: usize = 64;
+// Sums from 2^51 on have no key.
+const TALL: u64 = 2251799813685248;
 
 pub enum Popped {
     At(usize),
     Empty,
-}
-
-fn wide(x: u32) -> usize
-    ensures { λ r. ⌜ r ≡ x ⌝ }
-{
-    x as usize
 }
 
 // Sets every entry of s to v.
@@ -52,73 +45,69 @@ fn least_in(queue: &[u64], lo: usize, hi: usize) -> usize
     best
 }
 
-// The first least entry of all.
-fn top(queue: &[u64], blocks: &[u32]) -> usize
-    requires { ⌜ Indexed (now queue) (now blocks) ⌝ }
+// The first least entry of all: the tree's least key tells it, unless no sum has a key.
+fn top(queue: &[u64], tree: &[u64]) -> usize
+    requires { ⌜ Indexed (now queue) (now tree) ⌝ }
     ensures { λ r. ⌜ (r ≡ topS (now (queue .entry))) × (r < length (now (queue .entry))) ⌝ }
 {
-    let mut best = wide(blocks[0]);
-    let mut k: usize = 1;
-    while BLOCK * k < queue.len() {
-        let c = wide(blocks[k]);
-        if queue[c] < queue[best] {
-            best = c;
-        }
-        k += 1;
+    let x = tree[1];
+    if x < UNSET {
+        return (x % 4096) as usize;
     }
-    best
+    least_in(queue, 0, queue.len())
 }
 
-// The first least entry from lo to before hi after a store at v; before it that was r, with the sum old.
-fn least_now(queue: &[u64], lo: usize, hi: usize, v: usize, r: usize, old: u64) -> usize
-    requires { ⌜ Stored (now queue) lo hi v r old ⌝ }
-    ensures { λ m. ⌜ LeastIn (now (queue .entry)) lo hi m ⌝ }
+// The key of the node v with the sum f.
+fn key(f: u64, v: usize) -> u64
+    requires { ⌜ v < NODES ⌝ }
+    ensures { λ r. ⌜ r ≡ keyS f v ⌝ }
 {
-    let f = queue[v];
-    if f < old {
-        return v;
+    if f < TALL {
+        f * 4096 + (v as u64)
+    } else {
+        UNSET
     }
-    if old < f {
-        if v != r {
-            return r;
-        }
-    }
-    least_in(queue, lo, hi)
 }
 
-// Where the block that begins at lo ends.
-fn end_of(queue: &[u64], lo: usize) -> usize
-    requires { ⌜ lo < NODES ⌝ }
-    ensures { λ r. ⌜ r ≡ block-end lo (now (queue .entry)) ⌝ }
+fn lesser(a: u64, b: u64) -> u64
+    ensures { λ r. ⌜ r ≡ min a b ⌝ }
 {
-    let hi = lo + BLOCK;
-    if hi < queue.len() { hi } else { queue.len() }
+    if a < b { a } else { b }
+}
+
+// Replaces the key of the node v of n, and goes up.
+fn raise(tree: &mut [u64], n: usize, v: usize, x: u64)
+    requires { ⌜ Tree n (now tree) × (v < n) × (n ≤ NODES) ⌝ }
+    ensures { λ _. ⌜ Tree n (now (tree .exit)) × ((j : ℕ) → n ≤ j → getD (now (tree .exit)) j 0 ≡ getD (set (now (tree .entry)) (n + v) x) j 0) ⌝ }
+{
+    let mut k = n + v;
+    let mut best = x;
+    tree[k] = best;
+    while 1 < k {
+        best = lesser(best, tree[k + 1 - 2 * (k % 2)]);
+        k = k / 2;
+        tree[k] = best;
+    }
 }
 
 // Replaces the entry of the node v.
-pub fn put(queue: &mut [u64], blocks: &mut [u32], v: usize, f: u64)
-    requires { ⌜ Indexed (now queue) (now blocks) × (v < length (now queue)) ⌝ }
-    ensures { λ _. ⌜ (now (queue .exit) ≡ set (now (queue .entry)) v f) × Indexed (now (queue .exit)) (now (blocks .exit)) ⌝ }
+pub fn put(queue: &mut [u64], tree: &mut [u64], v: usize, f: u64)
+    requires { ⌜ Indexed (now queue) (now tree) × (v < length (now queue)) ⌝ }
+    ensures { λ _. ⌜ (now (queue .exit) ≡ set (now (queue .entry)) v f) × Indexed (now (queue .exit)) (now (tree .exit)) ⌝ }
 {
-    let b = v / BLOCK;
-    let r = wide(blocks[b]);
-    let old = queue[r];
     queue[v] = f;
-    let lo = BLOCK * b;
-    let hi = end_of(queue, lo);
-    let m = least_now(queue, lo, hi, v, r, old);
-    blocks[b] = m as u32;
+    raise(tree, queue.len(), v, key(f, v));
 }
 
 // Takes the first least entry out.
-pub fn pop_least(queue: &mut [u64], blocks: &mut [u32]) -> Popped
-    requires { ⌜ Indexed (now queue) (now blocks) ⌝ }
+pub fn pop_least(queue: &mut [u64], tree: &mut [u64]) -> Popped
+    requires { ⌜ Indexed (now queue) (now tree) ⌝ }
     ensures { λ r. ⌜ r ≡ popped (now (queue .entry)) ⌝ }
-    ensures { λ r. ⌜ (now (queue .exit) ≡ after-pop (now (queue .entry))) × Indexed (now (queue .exit)) (now (blocks .exit)) ⌝ }
+    ensures { λ r. ⌜ (now (queue .exit) ≡ after-pop (now (queue .entry))) × Indexed (now (queue .exit)) (now (tree .exit)) ⌝ }
 {
-    let r = top(queue, blocks);
+    let r = top(queue, tree);
     let f = queue[r];
-    put(queue, blocks, r, UNSET);
+    put(queue, tree, r, UNSET);
     if f < UNSET {
         Popped::At(r)
     } else {
@@ -126,23 +115,11 @@ pub fn pop_least(queue: &mut [u64], blocks: &mut [u32]) -> Popped
     }
 }
 
-// The index of an empty queue of n entries.
-fn first_blocks(blocks: &mut [u32], n: usize)
-    requires { ⌜ (n ≤ NODES) × (BLOCKS ≤ length (now blocks)) ⌝ }
-    ensures { λ _. ⌜ ((k : ℕ) → BLOCK * k < n → getD (now (blocks .exit)) k 0 ≡ BLOCK * k) ⌝ }
-{
-    let mut k: usize = 0;
-    while BLOCK * k < n {
-        blocks[k] = (BLOCK * k) as u32;
-        k += 1;
-    }
-}
-
 // Empties the queue.
-pub fn clear(queue: &mut [u64], blocks: &mut [u32])
-    requires { ⌜ (0 < length (now queue)) × (length (now queue) ≤ NODES) × (BLOCKS ≤ length (now blocks)) ⌝ }
-    ensures { λ _. ⌜ (now (queue .exit) ≡ replicate (length (now (queue .entry))) UNSET) × Indexed (now (queue .exit)) (now (blocks .exit)) ⌝ }
+pub fn clear(queue: &mut [u64], tree: &mut [u64])
+    requires { ⌜ (0 < length (now queue)) × (length (now queue) ≤ NODES) × (2 * length (now queue) ≤ length (now tree)) ⌝ }
+    ensures { λ _. ⌜ (now (queue .exit) ≡ replicate (length (now (queue .entry))) UNSET) × Indexed (now (queue .exit)) (now (tree .exit)) ⌝ }
 {
     fill(queue, UNSET);
-    first_blocks(blocks, queue.len());
+    fill(&mut tree[..2 * queue.len()], UNSET);
 }

@@ -1,10 +1,9 @@
 -- 01, 'Search' and 'Numbers handed back' 0, 9, 10, 11: a search on a built graph, as it is handed back.
-use Prim.Native.Nat.{ℕ, _≤_}
+use Prim.Native.Nat.{ℕ, _*_, _≤_}
 use mathlib.Core.Path.{_≡_}
 use mathlib.Core.List.{List}
 use lib.ListN.{length}
 use Rattle.nodes.specs.Graph.{Graph}
-use Rattle.queue.specs.Index.{BLOCKS}
 use Rattle.path_finding.specs.Line.{Written}
 use Rattle.path_finding.specs.Places.{number, line-between}
 
@@ -24,13 +23,13 @@ pub record Ended {A : Type 0} (ex ey : List A) : Type 0 where
   pub most : length ex ≤ ENDS
 
 -- the scratch of a search on n nodes to m ends: its sizes. What it holds does not matter
-pub record Scratch (n m : ℕ) (ends marked kept g pred queue blocks estimates path : List ℕ) : Type 0 where
+pub record Scratch (n m : ℕ) (ends marked kept g pred queue tree estimates path : List ℕ) : Type 0 where
   pub ends-room : m ≤ length ends
   pub marked-room : n ≤ length marked
   pub kept-room : m ≤ length kept
   pub g-room : n ≤ length g
   pub pred-room : n ≤ length pred
   pub queue-room : n ≤ length queue
-  pub blocks-room : BLOCKS ≤ length blocks
+  pub tree-room : 2 * n ≤ length tree
   pub estimates-room : n ≤ length estimates
   pub path-room : n ≤ length path

@@ -31,13 +31,13 @@ fn find_path_multi(
     g: &mut [u64],
     pred: &mut [u32],
     queue: &mut [u64],
-    blocks: &mut [u32],
+    tree: &mut [u64],
     estimates: &mut [u64],
     path: &mut [u32],
 ) -> Answer
     requires { ⌜ Ready (graph n (now xs) (now ys) (now links) (now marks)) ⌝ }
     requires { ⌜ (length (now ey) ≡ length (now ex)) × (length (now ex) ≤ length (now ends)) × (length (now ex) ≤ length (now kept)) ⌝ }
-    requires { ⌜ Lent n (now marked) (now g) (now pred) (now queue) (now blocks) (now estimates) (now path) ⌝ }
+    requires { ⌜ Lent n (now marked) (now g) (now pred) (now queue) (now tree) (now estimates) (now path) ⌝ }
     ensures { λ r. ⌜ Searched (graph n (now (xs .entry)) (now (ys .entry)) (now (links .entry)) (now (marks .entry))) x y (ups (now (ex .entry))) (ups (now (ey .entry))) (r .number) (r .nodes) (ups (now (lx .exit))) (ups (now (ly .exit))) (now (kinds .exit)) (now (dirs .exit)) ⌝ }
 {
     let a = path_finding::find_between(
@@ -56,7 +56,7 @@ fn find_path_multi(
         g,
         pred,
         queue,
-        blocks,
+        tree,
         estimates,
         path,
     );
@@ -86,13 +86,13 @@ fn find_path_in(
     g: &mut [u64],
     pred: &mut [u32],
     queue: &mut [u64],
-    blocks: &mut [u32],
+    tree: &mut [u64],
     estimates: &mut [u64],
     path: &mut [u32],
 ) -> Answer
     requires { ⌜ (0 < n → Ready (graph n (now xs) (now ys) (now links) (now marks))) ⌝ }
     requires { ⌜ Ended (now ex) (now ey) ⌝ }
-    requires { ⌜ Scratch n (length (now ex)) (now ends) (now marked) (now kept) (now g) (now pred) (now queue) (now blocks) (now estimates) (now path) ⌝ }
+    requires { ⌜ Scratch n (length (now ex)) (now ends) (now marked) (now kept) (now g) (now pred) (now queue) (now tree) (now estimates) (now path) ⌝ }
     ensures { λ r. ⌜ Searched (graph n (now (xs .entry)) (now (ys .entry)) (now (links .entry)) (now (marks .entry))) x y (ups (now (ex .entry))) (ups (now (ey .entry))) (r .number) (r .nodes) (ups (now (lx .exit))) (ups (now (ly .exit))) (now (kinds .exit)) (now (dirs .exit)) ⌝ }
 {
     if n == 0 {
@@ -122,7 +122,7 @@ fn find_path_in(
         &mut g[..n],
         &mut pred[..n],
         &mut queue[..n],
-        blocks,
+        tree,
         &mut estimates[..n],
         &mut path[..n],
     )
@@ -155,7 +155,7 @@ fn find_path_small(
     let mut g: [u64; 512] = [0; 512];
     let mut pred: [u32; 512] = [0; 512];
     let mut queue: [u64; 512] = [0; 512];
-    let mut blocks: [u32; 64] = [0; 64];
+    let mut tree: [u64; 1024] = [0; 1024];
     let mut estimates: [u64; 512] = [0; 512];
     let mut path: [u32; 512] = [0; 512];
     find_path_in(
@@ -178,7 +178,7 @@ fn find_path_small(
         &mut g,
         &mut pred,
         &mut queue,
-        &mut blocks,
+        &mut tree,
         &mut estimates,
         &mut path,
     )
@@ -210,7 +210,7 @@ fn find_path_large(
     let mut g: [u64; 4096] = [0; 4096];
     let mut pred: [u32; 4096] = [0; 4096];
     let mut queue: [u64; 4096] = [0; 4096];
-    let mut blocks: [u32; 64] = [0; 64];
+    let mut tree: [u64; 8192] = [0; 8192];
     let mut estimates: [u64; 4096] = [0; 4096];
     let mut path: [u32; 4096] = [0; 4096];
     find_path_in(
@@ -233,7 +233,7 @@ fn find_path_large(
         &mut g,
         &mut pred,
         &mut queue,
-        &mut blocks,
+        &mut tree,
         &mut estimates,
         &mut path,
     )

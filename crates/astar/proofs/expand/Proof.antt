@@ -15,10 +15,10 @@ use Rattle.astar.proofs.expand.Statement.{statement}
 use Rattle.astar.proofs.expand.Tie as tie
 
 abbrev Inv-loop : tie.InvT-loop
-Inv-loop xs ys links marks n ends g₀ pred₀ queue₀ blocks₀ estimates₀ u arrived pen d₀ g pred queue blocks estimates d = (d ≤ DIRECTIONS) × (st g pred queue ≡ relax-to d (graph n xs ys links marks) ends (st g₀ pred₀ queue₀) u arrived pen) × Held n (take n (ups xs)) (take n (ups ys)) ends g pred queue blocks estimates × (length blocks ≡ length blocks₀)
+Inv-loop xs ys links marks n ends g₀ pred₀ queue₀ tree₀ estimates₀ u arrived pen d₀ g pred queue tree estimates d = (d ≤ DIRECTIONS) × (st g pred queue ≡ relax-to d (graph n xs ys links marks) ends (st g₀ pred₀ queue₀) u arrived pen) × Held n (take n (ups xs)) (take n (ups ys)) ends g pred queue tree estimates × (length tree ≡ length tree₀)
 
 abbrev μ-loop : tie.MeasureT-loop
-μ-loop xs ys links marks n ends g₀ pred₀ queue₀ blocks₀ estimates₀ u arrived pen d₀ g pred queue blocks estimates d = DIRECTIONS - d
+μ-loop xs ys links marks n ends g₀ pred₀ queue₀ tree₀ estimates₀ u arrived pen d₀ g pred queue tree estimates d = DIRECTIONS - d
 
 arrival-requires : tie.Need-arrival-requires Inv-loop μ-loop
 arrival-requires c κs = (few _ _ _ _ _ (c .before .before .before .before .before .before .before .before .before .pre .0), link-room _ _ _ _ _ (c .before .before .before .before .before .before .before .before .before .pre .0), c .before .before .before .before .before .before .before .before .before .pre .1 .1 .p-long, c .before .before .before .before .before .before .before .before .before .pre .1 .0 .0, c .before .before .before .before .before .before .before .before .before .pre .1 .0 .2)

@@ -17,15 +17,15 @@ use Rattle.astar.proofs.find_path_impl.Statement.{statement}
 use Rattle.astar.proofs.find_path_impl.Tie as tie
 
 abbrev Inv-outer : tie.InvT-outer
-Inv-outer xs ys links marks n ends marked g₀ pred₀ queue₀ blocks₀ estimates₀ start found₀ g pred queue blocks estimates found = Going n (graph n xs ys links marks) ends start (st g pred queue) found × Indexed queue blocks × Estimated n (take n (ups xs)) (take n (ups ys)) ends estimates × (length blocks ≡ length blocks₀)
+Inv-outer xs ys links marks n ends marked g₀ pred₀ queue₀ tree₀ estimates₀ start found₀ g pred queue tree estimates found = Going n (graph n xs ys links marks) ends start (st g pred queue) found × Indexed queue tree × Estimated n (take n (ups xs)) (take n (ups ys)) ends estimates × (length tree ≡ length tree₀)
 
 abbrev μ-outer : tie.MeasureT-outer
-μ-outer xs ys links marks n ends marked g₀ pred₀ queue₀ blocks₀ estimates₀ start found₀ g pred queue blocks estimates found = mu (st g pred queue)
+μ-outer xs ys links marks n ends marked g₀ pred₀ queue₀ tree₀ estimates₀ start found₀ g pred queue tree estimates found = mu (st g pred queue)
 
 begin-requires : tie.Need-begin-requires Inv-outer μ-outer
 begin-requires c κs =
     let l = c .before .before .before .before .before .before .before .before .before .before .before .before .before .pre .1 in
-    (rw (l .2) (l .5), l .0 ∙ sym (l .2), l .1 ∙ sym (l .2), rw (l .2) (few _ _ _ _ _ (c .before .before .before .before .before .before .before .before .before .before .before .before .before .pre .0)), l .4)
+    (rw (l .2) (l .5), l .0 ∙ sym (l .2), l .1 ∙ sym (l .2), rw (l .2) (few _ _ _ _ _ (c .before .before .before .before .before .before .before .before .before .before .before .before .before .pre .0)), rw (l .2) (l .4))
 
 fill-requires : tie.Need-fill-requires Inv-outer μ-outer
 fill-requires c κs = search needs

@@ -35,7 +35,7 @@ slice-aggregate-find-path-in-9 c = search needs
 find-path-in-requires : tie.Need-find-path-in-requires
 find-path-in-requires c κs =
     let few = few-or-none _ (c .before .before .before .before .before .before .before .before .before .before .before .before .before .before .before .before .before .pre .0) in
-    (c .before .before .before .before .before .before .before .before .before .before .before .before .before .before .before .before .before .pre .0, (c .before .before .before .before .before .before .before .before .before .before .before .before .before .before .before .before .before .pre .1, record { ends-room = omega (arith, c .before .before .before .before .before .before .before .before .before .before .before .before .before .before .before .before .before .pre .1 .most); marked-room = omega (arith, few); kept-room = omega (arith, c .before .before .before .before .before .before .before .before .before .before .before .before .before .before .before .before .before .pre .1 .most); g-room = omega (arith, few); pred-room = omega (arith, few); queue-room = omega (arith, few); estimates-room = omega (arith, few); path-room = omega (arith, few); blocks-room = search needs }))
+    (c .before .before .before .before .before .before .before .before .before .before .before .before .before .before .before .before .before .pre .0, (c .before .before .before .before .before .before .before .before .before .before .before .before .before .before .before .before .before .pre .1, record { ends-room = omega (arith, c .before .before .before .before .before .before .before .before .before .before .before .before .before .before .before .before .before .pre .1 .most); marked-room = omega (arith, few); kept-room = omega (arith, c .before .before .before .before .before .before .before .before .before .before .before .before .before .before .before .before .before .pre .1 .most); g-room = omega (arith, few); pred-room = omega (arith, few); queue-room = omega (arith, few); estimates-room = omega (arith, few); path-room = omega (arith, few); tree-room = search needs }))
 
 same-length : tie.Need-same-length
 same-length c = search needs
