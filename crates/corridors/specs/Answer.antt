@@ -1,12 +1,12 @@
 -- What `generate_implicit_anchors` asks of the lent lists, and what it leaves in them.
 use mathlib.Core.Path.{_≡_}
 use mathlib.Core.Bool.{cond}
-use mathlib.Core.List.{List, [], _++_}
-use Prim.Native.Nat.{ℕ, _-_, _<_, _≤_}
+use mathlib.Core.List.{List}
+use Prim.Native.Nat.{ℕ, _<_, _≤_}
 use lib.Dec.{ltb}
 use lib.IntN.{ℤ}
-use lib.ListN.{length, getD, replicate}
-use Rattle.fixed.specs.Up.{BIAS, ups}
+use lib.ListN.{length, getD, take}
+use Rattle.fixed.specs.Up.{ups}
 use Rattle.corridors.specs.Sizes.{TABLE, ANCHORS, CROWDED}
 use Rattle.corridors.specs.Merge.{Anchors, directions}
 
@@ -30,27 +30,13 @@ pub record Inside (n : ℕ) (l : List ℕ) : Type 0 where
 
 -- ---- the answer
 
--- l, and zeros behind it to the length n
-unfoldable pub filled-up : ℕ → List ℕ → ℕ → List ℕ
-filled-up zero-is l n = l ++ replicate (n - length l) zero-is
-
 -- 01, 'Limits': over 2,048 implicit anchors the page is crowded
-abbrev pub number-of : ℕ → ℕ
-number-of n = cond (ltb ANCHORS n) CROWDED n
-
-abbrev pub shown-of : ℕ → ℕ
-shown-of n = cond (ltb ANCHORS n) 0 n
-
 unfoldable pub number : Anchors → ℕ
-number a = number-of (length (a .xs))
+number a = cond (ltb ANCHORS (length (a .xs))) CROWDED (length (a .xs))
 
--- what is shown of anchors: all, or none if there are too many
-unfoldable pub shown : Anchors → Anchors
-shown a = cond (ltb ANCHORS (length (a .xs))) (record { level = 0; xs = []; ys = [] }) a
-
--- the count, and each entry of the three lent columns, nx, ny and m long: places counted from −2^31, where zero is BIAS, and directions
-pub record Answered (r : ℕ) (ax ay : List ℤ) (ways : List ℕ) (nx ny m : ℕ) (a : Anchors) : Type 0 where
+-- the count and, unless there are too many, the anchors in the three lent columns: places counted from −2^31, and directions
+pub record Answered (r : ℕ) (ax ay : List ℤ) (ways : List ℕ) (a : Anchors) : Type 0 where
   pub count : r ≡ number a
-  pub place-x : ups ax ≡ filled-up BIAS (shown a .xs) nx
-  pub place-y : ups ay ≡ filled-up BIAS (shown a .ys) ny
-  pub directed : ways ≡ filled-up 0 (directions (shown a .level) (length (shown a .xs))) m
+  pub place-x : r ≤ ANCHORS → take r (ups ax) ≡ a .xs
+  pub place-y : r ≤ ANCHORS → take r (ups ay) ≡ a .ys
+  pub directed : r ≤ ANCHORS → take r ways ≡ directions (a .level) (length (a .xs))

@@ -6,11 +6,10 @@ use Prim.Native.Nat.{ℕ, zero, suc, _+_, _*_, _<_, _≤_}
 use lib.Dec.{ltb, leb}
 use lib.IntN.{ℤ}
 use lib.ListN.{length, getD, take, drop}
-use Rattle.fixed.specs.Up.{BIAS, ups}
-use Rattle.corridors.specs.Sizes.{RUNS, WIDTH, ANCHORS, X, Y}
+use Rattle.fixed.specs.Up.{ups}
+use Rattle.corridors.specs.Sizes.{RUNS, WIDTH, ANCHORS}
 use Rattle.corridors.specs.Grid.{Boxes, covers, covered, add-cell}
-use Rattle.corridors.specs.Answer.{filled-up}
-use Rattle.corridors.specs.Merge.{Table, Taken, Plan, Anchors, has, swap-remove, directions}
+use Rattle.corridors.specs.Merge.{Table, Taken, Plan, Anchors, has, swap-remove}
 
 -- ---- the rows: WIDTH words a row, the count and at most RUNS runs
 
@@ -86,15 +85,3 @@ found level n ax ay = record { level = level; xs = take n (ups ax); ys = take n 
 pub record Crossed (n : ℕ) (v g : Anchors) : Type 0 where
   pub full : ANCHORS < n → ANCHORS < length (g .ys)
   pub same : n ≤ ANCHORS → v ≡ g
-
--- ---- the columns of the answer
-
--- the directions of the anchor i of n, 0 behind them
-unfoldable pub way : ℕ → ℕ → ℕ → ℕ
-way level n i = cond (ltb i n) (cond (ltb i level) X Y) 0
-
--- the three columns of n anchors, the first `level` of them in rows; before, the places stood in a and b
-pub record Closed (level n : ℕ) (a b ax ay : List ℤ) (ways : List ℕ) (m : ℕ) : Type 0 where
-  pub place-x : ups ax ≡ filled-up BIAS (take n (ups a)) (length a)
-  pub place-y : ups ay ≡ filled-up BIAS (take n (ups b)) (length b)
-  pub directed : ways ≡ filled-up 0 (directions level n) m

@@ -1,18 +1,19 @@
 // Corridors between padded boxes: the implicit anchors.
 ghost use mathlib.Core.Path.{_≡_};
 ghost use Prim.Native.Nat.{_+_, _-_, _*_, _/_, _%_, _<_, _≤_};
+ghost use lib.Dec.{ltb};
 ghost use lib.ListN.{length, getD, take, drop};
 ghost use mathlib.Core.Bool.{false, cond};
 ghost use mathlib.Core.List.{[], _∷_, _++_};
-ghost use Rattle.fixed.specs.Up.{BIAS, ups};
+ghost use Rattle.fixed.specs.Up.{ups};
 ghost use Rattle.fixed.specs.Steps.{middle};
 ghost use Rattle.fixed.specs.Constants.{BOXES};
 ghost use Rattle.axis.specs.Axis.{index};
-ghost use Rattle.corridors.specs.Sizes.{EDGES, CELLS, RUNS, WIDTH, TABLE, SPAN, ANCHORS};
+ghost use Rattle.corridors.specs.Sizes.{EDGES, CELLS, RUNS, WIDTH, TABLE, SPAN, ANCHORS, X, Y};
 ghost use Rattle.corridors.specs.Grid.{boxes, ends-at, add-cell, runs, all-runs};
 ghost use Rattle.corridors.specs.Merge.{has, take-out, fold, corridor, row-corridors, corridors, implicit, anchors, directions};
-ghost use Rattle.corridors.specs.Answer.{Held, Roomy, Inside, filled-up, shown-of, number-of, Answered};
-ghost use Rattle.corridors.specs.Lent.{MarkedSpan, MarkedBox, MarkedRow, Clear, listed, few, row, table, Changed, removed, taken, plan, Laid, Emitted, found, Crossed, way, Closed};
+ghost use Rattle.corridors.specs.Answer.{Held, Roomy, Inside, Answered};
+ghost use Rattle.corridors.specs.Lent.{MarkedSpan, MarkedBox, MarkedRow, Clear, listed, few, row, table, Changed, removed, taken, plan, Laid, Emitted, found, Crossed};
 
 // The most cells of a row.
 const CELLS: usize = 127;
@@ -30,9 +31,6 @@ const SPAN: usize = 256;
 pub const ANCHORS: usize = 2048;
 
 pub const CROWDED: usize = 2049;
-
-// Zero as a coordinate, counted from -2^31.
-const ZERO: u32 = 2147483648;
 
 // Directions: NegX and PosX, NegY and PosY.
 const X: u32 = 3;
@@ -494,76 +492,29 @@ fn make(
     )
 }
 
-// Zeros from `from` to the end.
-fn clear_from(col: &mut [i32], from: usize)
-    requires { ⌜ from ≤ length (now col) ⌝ }
-    ensures { λ _. ⌜ ups (now (col .exit)) ≡ filled-up BIAS (take from (ups (now (col .entry)))) (length (now (col .entry))) ⌝ }
+// The directions of the anchor i, if the first `level` lie in rows.
+fn way(level: usize, i: usize) -> u32
+    ensures { λ r. ⌜ r ≡ cond (ltb i level) X Y ⌝ }
 {
-    let mut i = from;
-    while i < col.len() {
-        fixed::put(col, i, ZERO);
-        i += 1;
-    }
-}
-
-// The directions of the anchor i of n, the first `level` of which lie in rows; 0 behind them.
-fn way(level: usize, n: usize, i: usize) -> u32
-    ensures { λ r. ⌜ r ≡ way level n i ⌝ }
-{
-    if n <= i {
-        return 0;
-    }
     if i < level {
         return X;
     }
     Y
 }
 
-// The directions of n anchors, and zeros behind them.
+// The directions of n anchors, the first `level` of which lie in rows.
 fn mark(col: &mut [u32], level: usize, n: usize)
     requires { ⌜ n ≤ length (now col) ⌝ }
-    ensures { λ _. ⌜ now (col .exit) ≡ filled-up 0 (directions level n) (length (now (col .entry))) ⌝ }
+    ensures { λ _. ⌜ take n (now (col .exit)) ≡ directions level n ⌝ }
 {
     let mut i = 0;
-    while i < col.len() {
-        col[i] = way(level, n, i);
+    while i < n {
+        col[i] = way(level, i);
         i += 1;
     }
 }
 
-// The three columns of n anchors, with zeros behind them.
-fn close(ax: &mut [i32], ay: &mut [i32], ways: &mut [u32], level: usize, n: usize)
-    requires { ⌜ (n ≤ length (now ax)) × (n ≤ length (now ay)) × (n ≤ length (now ways)) ⌝ }
-    ensures { λ _. ⌜ Closed level n (now (ax .entry)) (now (ay .entry)) (now (ax .exit)) (now (ay .exit)) (now (ways .exit)) (length (now (ways .entry))) ⌝ }
-{
-    clear_from(ax, n);
-    clear_from(ay, n);
-    mark(ways, level, n);
-}
-
-// How many anchors are shown: all, or none if there are too many.
-fn shown(all: usize) -> usize
-    ensures { λ r. ⌜ r ≡ shown-of all ⌝ }
-    ensures { λ r. ⌜ r ≤ ANCHORS ⌝ }
-{
-    if ANCHORS < all {
-        return 0;
-    }
-    all
-}
-
-// The count that is handed back.
-fn number(all: usize) -> usize
-    ensures { λ r. ⌜ r ≡ number-of all ⌝ }
-{
-    if ANCHORS < all {
-        return CROWDED;
-    }
-    all
-}
-
-// The implicit anchors between b padded boxes: their count, or CROWDED; places and directions in the columns, zeros behind them, and all zeros if crowded.
-// rows, xs and ys are scratch.
+// The implicit anchors between b padded boxes: their count, with places and directions in the columns, or CROWDED. rows, xs and ys are scratch.
 pub fn generate_implicit_anchors(
     rows: &mut [u32],
     ax: &mut [i32],
@@ -578,10 +529,12 @@ pub fn generate_implicit_anchors(
     b: usize,
 ) -> usize
     requires { ⌜ Roomy (now rows) (now ax) (now ay) × (EDGES ≤ length (now xs)) × (EDGES ≤ length (now ys)) × (ANCHORS ≤ length (now ways)) × Held b (now left) (now right) (now low) (now high) × (b ≤ BOXES) × Inside b (ups (now left)) × Inside b (ups (now right)) × Inside b (ups (now low)) × Inside b (ups (now high)) ⌝ }
-    ensures { λ r. ⌜ Answered r (now (ax .exit)) (now (ay .exit)) (now (ways .exit)) (length (now (ax .entry))) (length (now (ay .entry))) (length (now (ways .entry))) (anchors (boxes b (now (left .entry)) (now (right .entry)) (now (low .entry)) (now (high .entry)))) ⌝ }
+    ensures { λ r. ⌜ Answered r (now (ax .exit)) (now (ay .exit)) (now (ways .exit)) (anchors (boxes b (now (left .entry)) (now (right .entry)) (now (low .entry)) (now (high .entry)))) ⌝ }
 {
     let f = make(rows, ax, ay, xs, ys, left, right, low, high, b);
-    let n = shown(f.all);
-    close(ax, ay, ways, f.level, n);
-    number(f.all)
+    if ANCHORS < f.all {
+        return CROWDED;
+    }
+    mark(ways, f.level, f.all);
+    f.all
 }

@@ -1,13 +1,9 @@
 // The graph of a page: from its records to nodes and links.
-ghost use mathlib.Core.Path.{_≡_};
-ghost use Prim.Native.Nat.{_+_, _*_, _<_, _≤_};
+ghost use Prim.Native.Nat.{_≤_};
 ghost use lib.ListN.{length};
-ghost use Rattle.nodes.specs.Graph.{NODES};
 ghost use Rattle.nodes.specs.Lent.{graph, Roomy, Built};
 ghost use Rattle.sightline.specs.Lent.{Held};
 ghost use Rattle.scan.specs.Lent.{anchors as anchors-of, Anchored};
-ghost use Rattle.fixed.specs.Up.{BIAS, ups};
-ghost use Rattle.zeros.specs.Zeros.{closed};
 ghost use Rattle.graph.specs.Build.{boxes-of, whole, made, Made};
 
 // The graph of padded boxes and anchors, not pruned: how many nodes it has, or more than NODES where it would have more.
@@ -112,19 +108,4 @@ pub fn make(
         return prune::remove_redundant_nodes(xs, ys, links, marks, n);
     }
     n
-}
-
-// Zeros behind the n nodes of a graph.
-pub fn close(xs: &mut [i32], ys: &mut [i32], links: &mut [u32], marks: &mut [u32], n: usize)
-    requires { ⌜ Roomy (now xs) (now ys) (now links) (now marks) ⌝ }
-    requires { ⌜ n ≤ NODES ⌝ }
-    ensures { λ _. ⌜ ups (now (xs .exit)) ≡ closed BIAS n (ups (now (xs .entry))) ⌝ }
-    ensures { λ _. ⌜ ups (now (ys .exit)) ≡ closed BIAS n (ups (now (ys .entry))) ⌝ }
-    ensures { λ _. ⌜ now (links .exit) ≡ closed 0 (n * 4) (now (links .entry)) ⌝ }
-    ensures { λ _. ⌜ now (marks .exit) ≡ closed 0 n (now (marks .entry)) ⌝ }
-{
-    zeros::zero_steps(xs, n);
-    zeros::zero_steps(ys, n);
-    zeros::zero_words(links, n * 4);
-    zeros::zero_words(marks, n);
 }

@@ -1,5 +1,5 @@
 -- The implicit anchors behind the first n: the places and directions that the corridors gave, laid behind what is there.
-use mathlib.Core.Path.{_≡_, refl, sym, _∙_}
+use mathlib.Core.Path.{_≡_, refl, sym}
 use mathlib.Core.Bool.{Bool, true, false, cond}
 use mathlib.Core.List.{List, _++_}
 use Prim.Native.Nat.{ℕ, _+_, _-_, _<_, _≤_}
@@ -9,13 +9,11 @@ use lib.Dec.{ltb}
 use lib.IntN.{ℤ}
 use lib.ListN.{length, take, drop, replicate, length-drop}
 use lib.Seq.{length-take-le}
-use Rattle.fixed.specs.Up.{BIAS}
 use Rattle.sightline.specs.Lent.{Held}
 use Rattle.corridors.specs.Sizes.{ANCHORS, CROWDED}
 use Rattle.corridors.specs.Answer as Corridors
-use Rattle.corridors.specs.Answer.{filled-up, number, shown}
+use Rattle.corridors.specs.Answer.{number}
 use Rattle.corridors.specs.Merge.{Anchors, directions}
-use Rattle.corridors.proofs.Answer.{length-directions}
 use Rattle.nodes.specs.Graph.{none}
 use Rattle.anchors.specs.Explicit.{Columns, columns}
 use Rattle.page_graph.specs.Page.{CROWDED as OVER, then-implicit}
@@ -34,15 +32,14 @@ boxes-held h = record { from-held = h .low-held; to-held = h .from-held; low-hel
 pub record Few (m : ℕ) (a : Anchors) : Type 0 where
   pub within : length (a .xs) ≤ ANCHORS
   pub is : length (a .xs) ≡ m
-  pub all : shown a ≡ a
 
 pub few-implicit : (m : ℕ) (a : Anchors) → m ≡ number a → m ≤ ANCHORS → Few m a
-unfolding number shown
+unfolding number
 few-implicit m a e h = by (ltb ANCHORS (length (a .xs))) refl e
   where
     by : (t : Bool) → ltb ANCHORS (length (a .xs)) ≡ t → m ≡ cond t CROWDED (length (a .xs)) → Few m a
     by true q z = absurd (omega arith)
-    by false q z = record { within = ltb-false _ _ q; is = sym z; all = rw q }
+    by false q z = record { within = ltb-false _ _ q; is = sym z }
 
 pub many-implicit : (m : ℕ) (a : Anchors) → m ≡ number a → ANCHORS < m → ANCHORS < length (a .xs)
 unfolding number
@@ -54,11 +51,10 @@ many-implicit m a e h = by (ltb ANCHORS (length (a .xs))) refl e
 
 -- ---- the columns
 
-module _ (m n : ℕ) (cx cy px py sx sy : List ℤ) (dirs pd sd : List ℕ) (nx ny nd : ℕ) (a : Anchors) (w : Corridors.Answered m px py pd nx ny nd a) (paired : length (a .xs) ≡ length (a .ys)) where
-  pub appended : n ≤ length cx → n ≤ length cy → n ≤ length dirs → Appended m n cx cy (take n cx ++ (px ++ sx)) (take n cy ++ (py ++ sy)) dirs (take n dirs ++ (pd ++ sd)) a
-  unfolding filled-up
-  appended hx hy hd =
-      record { counted = w .count; x-laid = λ h. let f = few-implicit m a (w .count) h in laid-steps n m cx px sx (a .xs) (replicate (nx - length (a .xs)) BIAS) hx (f .is) (rw (f .all) at (w .place-x)); y-laid = λ h. let f = few-implicit m a (w .count) h in laid-steps n m cy py sy (a .ys) (replicate (ny - length (a .ys)) BIAS) hy (sym paired ∙ f .is) (rw (f .all) at (w .place-y)); dirs-laid = λ h. let f = few-implicit m a (w .count) h in let q = w .directed in rw (q, f .all) (laid-words n m dirs (directions (a .level) (length (a .xs))) _ sd hd (length-directions (a .level) (length (a .xs)) ∙ f .is)) }
+module _ (m n : ℕ) (cx cy px py sx sy : List ℤ) (dirs pd sd : List ℕ) (a : Anchors) (w : Corridors.Answered m px py pd a) where
+  pub appended : n ≤ length cx → n ≤ length cy → n ≤ length dirs → ANCHORS ≤ length px → ANCHORS ≤ length py → ANCHORS ≤ length pd → Appended m n cx cy (take n cx ++ (px ++ sx)) (take n cy ++ (py ++ sy)) dirs (take n dirs ++ (pd ++ sd)) a
+  appended hx hy hd lx ly ld =
+      record { counted = w .count; x-laid = λ h. laid-steps n m cx px sx (a .xs) hx (omega arith) (w .place-x h); y-laid = λ h. laid-steps n m cy py sy (a .ys) hy (omega arith) (w .place-y h); dirs-laid = λ h. laid-words n m dirs pd sd (directions (a .level) (length (a .xs))) hd (omega arith) (w .directed h) }
 
 -- ---- all anchors
 

@@ -3,7 +3,7 @@
 --     padded-by    the padded boxes are the first n of four lists of edges
 --     same-begin, same-on      the entries of one value behind the first ones
 --     edges-at, edges-bounded, within-padded    the padded edges, and where they lie
---     laid-words, laid-steps    what was lent behind the first n has been filled, and they are as they were
+--     laid-words, laid-steps    m were laid in what was lent behind the first n, and these are as they were
 use mathlib.Core.Path.{_≡_, refl, sym, ap, _∙_}
 use mathlib.Core.Bool.{Bool, true, false}
 use mathlib.Core.List.{List, [], _∷_, _++_, append-assoc, append-nil}
@@ -11,8 +11,8 @@ use Prim.Native.Nat.{ℕ, zero, suc, _+_, _-_, _*_, _<_, _≤_}
 use native.Mathlib.Numerals.{add-one}
 use native.Mathlib.Omega.{arith}
 use lib.IntN.{ℤ}
-use lib.ListN.{length, getD, take, set, replicate, length-append, replicate-append-replicate, List·getD-append}
-use lib.Seq.{length-take-le, take-at, take-suc-set, getD-at}
+use lib.ListN.{length, getD, take, set, replicate, replicate-append-replicate, List·getD-append}
+use lib.Seq.{length-take-le, take-at, take-append-add, take-append-le, take-suc-set, getD-at}
 use Rattle.fixed.specs.Constants.{PADDING, LEAST, GREATEST, BOXES}
 use Rattle.fixed.specs.Up.{up, ups}
 use Rattle.fixed.proofs.Lists.{length-ups, ups-take}
@@ -43,15 +43,13 @@ unfolding padded-boxes
 padded-by rows n bx by ex ey p q s t a b c d =
     rw (part-by n bx (edges rows BOX 1 false n) p (length-edges rows BOX 1 false n) a, part-by n by (edges rows BOX 2 false n) q (length-edges rows BOX 2 false n) b, part-by n ex (edges rows BOX 3 true n) s (length-edges rows BOX 3 true n) c, part-by n ey (edges rows BOX 4 true n) t (length-edges rows BOX 4 true n) d)
 
-pub laid-words : (n m : ℕ) (d l r t : List ℕ) → n ≤ length d → length l ≡ m → take (n + m) (take n d ++ ((l ++ r) ++ t)) ≡ take n d ++ l
-laid-words n m d l r t h e =
-    let k : length (take n d) ≡ n = length-take-le n d h in
-    let f : take n d ++ ((l ++ r) ++ t) ≡ (take n d ++ l) ++ (r ++ t) = simp append-assoc in
-    rw f (take-at (take n d ++ l) (r ++ t) (n + m) (length-append (take n d) l ∙ omega arith))
+pub laid-words : (n m : ℕ) (d p t l : List ℕ) → n ≤ length d → m ≤ length p → take m p ≡ l → take (n + m) (take n d ++ (p ++ t)) ≡ take n d ++ l
+laid-words n m d p t l h k e =
+    rw (length-take-le n d h) at (take-append-add (take n d) (p ++ t) m) ∙ rw (take-append-le m p t k, e)
 
-pub laid-steps : (n m : ℕ) (c p t : List ℤ) (l r : List ℕ) → n ≤ length c → length l ≡ m → ups p ≡ l ++ r → take (n + m) (ups (take n c ++ (p ++ t))) ≡ take n (ups c) ++ l
-laid-steps n m c p t l r h e q =
-    rw (ups-append (take n c) (p ++ t), ups-append p t, ups-take n c, q) (laid-words n m (ups c) l r (ups t) (omega (arith, length-ups c)) e)
+pub laid-steps : (n m : ℕ) (c p t : List ℤ) (l : List ℕ) → n ≤ length c → m ≤ length p → take m (ups p) ≡ l → take (n + m) (ups (take n c ++ (p ++ t))) ≡ take n (ups c) ++ l
+laid-steps n m c p t l h k e =
+    rw (ups-append (take n c) (p ++ t), ups-append p t, ups-take n c) (laid-words n m (ups c) (ups p) (ups t) l (omega (arith, length-ups c)) (omega (arith, length-ups p)) e)
 
 -- from `from` to before i there is z, and before that all is as it was
 pub same-begin : (z from : ℕ) (l : List ℕ) → take from l ≡ take from l ++ replicate (from - from) z

@@ -1,16 +1,15 @@
 -- What `build` asks of a page's records and of the lent lists, and what it leaves in them.
 use mathlib.Core.Path.{_≡_}
-use mathlib.Core.Bool.{Bool, cond}
+use mathlib.Core.Bool.{Bool, false, cond}
 use mathlib.Core.List.{List, _++_}
-use Prim.Native.Nat.{ℕ, _+_, _*_, _<_, _≤_}
+use Prim.Native.Nat.{ℕ, _+_, _<_, _≤_}
 use lib.Dec.{ltb}
 use lib.IntN.{ℤ}
 use lib.ListN.{length, take}
 use Rattle.fixed.specs.Constants.{BOXES, COORDS}
-use Rattle.fixed.specs.Up.{BIAS, ups}
+use Rattle.fixed.specs.Up.{ups}
 use Rattle.sightline.specs.Boxes.{Fields}
 use Rattle.sightline.specs.Lent.{Held}
-use Rattle.corridors.specs.Answer.{filled-up}
 use Rattle.corridors.specs.Answer as Corridors
 use Rattle.corridors.specs.Merge as Implicit
 use Rattle.corridors.specs.Merge.{directions}
@@ -19,8 +18,7 @@ use Rattle.nodes.specs.Graph.{Graph, NODES}
 use Rattle.scan.specs.Lent.{Anchored}
 use Rattle.anchors.specs.Records.{BOX, Records, RowsHeld}
 use Rattle.anchors.specs.Explicit.{Columns, explicit}
-use Rattle.zeros.specs.Zeros.{closed}
-use Rattle.page_graph.specs.Page.{CROWDED, then-implicit, number, shown}
+use Rattle.page_graph.specs.Page.{CROWDED, then-implicit, number}
 
 -- 01, 'Limits': 256 ports and 256 endpoints
 abbrev pub EXPLICIT : ℕ
@@ -51,17 +49,10 @@ pub record Scratch (bx by ex ey cx cy : List ℤ) (dirs own table : List ℕ) (a
   pub axis-x-room : COORDS ≤ length ax
   pub axis-y-room : COORDS ≤ length ay
 
--- each entry of the four lent columns, nx, ny, nl and nm long: the graph, and zeros behind it
-pub record Columned (g : Graph) (xs ys : List ℤ) (links marks : List ℕ) (nx ny nl nm : ℕ) : Type 0 where
-  pub place-x : ups xs ≡ filled-up BIAS (g .xs) nx
-  pub place-y : ups ys ≡ filled-up BIAS (g .ys) ny
-  pub linked : links ≡ filled-up 0 (g .links) nl
-  pub marked : marks ≡ filled-up 0 (g .marks) nm
-
--- the count and the columns of the graph g, or of none if the page is crowded
-pub record Answered (n : ℕ) (xs ys : List ℤ) (links marks : List ℕ) (nx ny nl nm : ℕ) (full : Bool) (g : Graph) : Type 0 where
+-- the count and, unless the page is crowded, the graph: v stands in the columns, and g is the page's
+pub record Answered (n : ℕ) (v : Graph) (full : Bool) (g : Graph) : Type 0 where
   pub count : n ≡ number full g
-  pub columns : Columned (shown full g) xs ys links marks nx ny nl nm
+  pub same : full ≡ false → v ≡ g
 
 -- ---- the functions below `build`
 
@@ -87,17 +78,6 @@ pub record Gathered (r : ℕ) (v c : Columns) (a : Implicit.Anchors) : Type 0 wh
   pub fits : r ≤ COORDS → length (a .xs) ≤ ANCHORS
   pub same : r ≤ COORDS → v ≡ then-implicit c a
 
--- over 4,096 nodes there is no graph
-abbrev pub nodes-of : ℕ → ℕ
-nodes-of n = cond (ltb NODES n) 0 n
-
+-- over 4,096 nodes the page is crowded
 abbrev pub number-of : ℕ → ℕ
 number-of n = cond (ltb NODES n) CROWDED n
-
--- zeros behind the nodes of four columns, and the count that is handed back
-pub record Finished (n r : ℕ) (xs ys : List ℤ) (links marks : List ℕ) (xs′ ys′ : List ℤ) (links′ marks′ : List ℕ) : Type 0 where
-  pub count : r ≡ number-of n
-  pub x-closed : ups xs′ ≡ closed BIAS (nodes-of n) (ups xs)
-  pub y-closed : ups ys′ ≡ closed BIAS (nodes-of n) (ups ys)
-  pub link-closed : links′ ≡ closed 0 (nodes-of n * 4) links
-  pub mark-closed : marks′ ≡ closed 0 (nodes-of n) marks

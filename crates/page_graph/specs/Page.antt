@@ -8,7 +8,7 @@ use Rattle.sightline.specs.Boxes.{edges}
 use Rattle.corridors.specs.Merge as Implicit
 use Rattle.corridors.specs.Merge.{anchors, directions}
 use Rattle.corridors.specs.Sizes.{ANCHORS}
-use Rattle.nodes.specs.Graph.{Graph, NODES, none, empty}
+use Rattle.nodes.specs.Graph.{Graph, NODES, none}
 use Rattle.scan.specs.Scan.{Anchors}
 use Rattle.anchors.specs.Records.{BOX, Records}
 use Rattle.anchors.specs.Explicit.{Columns, explicit}
@@ -54,7 +54,7 @@ crowded r = overfull (boxes-of-page r) (explicit r)
 unfoldable pub page-graph : Records → Bool → Graph
 page-graph r pruned = made (boxes-of-page r) (anchors-of-page r) pruned
 
--- ---- what is handed back: a crowded page has no graph
+-- ---- what is handed back
 
 -- the count that says that the page is crowded
 abbrev pub CROWDED : ℕ
@@ -62,6 +62,3 @@ CROWDED = 4097
 
 unfoldable pub number : Bool → Graph → ℕ
 number full g = cond full CROWDED (g .count)
-
-unfoldable pub shown : Bool → Graph → Graph
-shown full g = cond full empty g

@@ -1,20 +1,20 @@
 // The graph of a page, from its records.
 ghost use mathlib.Core.Path.{_≡_};
 ghost use mathlib.Core.List.{_++_};
-ghost use Prim.Native.Nat.{_+_, _-_, _*_, _<_, _≤_};
+ghost use Prim.Native.Nat.{_+_, _-_, _<_, _≤_};
 ghost use lib.Dec.{ltb};
 ghost use lib.ListN.{length, take, replicate};
-ghost use Rattle.fixed.specs.Constants.{BOXES, COORDS};
+ghost use Rattle.fixed.specs.Constants.{COORDS};
 ghost use Rattle.sightline.specs.Lent.{Held};
 ghost use Rattle.corridors.specs.Sizes.{TABLE, ANCHORS, EDGES};
 ghost use Rattle.nodes.specs.Graph.{NODES, none};
-ghost use Rattle.nodes.specs.Lent.{Roomy};
+ghost use Rattle.nodes.specs.Lent.{graph, Roomy};
 ghost use Rattle.scan.specs.Lent.{Anchored};
 ghost use Rattle.anchors.specs.Records.{records};
 ghost use Rattle.anchors.specs.Explicit.{columns};
 ghost use Rattle.graph.specs.Build.{boxes-of, whole, made};
 ghost use Rattle.page_graph.specs.Page.{padded-boxes, implicit, overfull, all-anchors, anchors-of, crowded, page-graph};
-ghost use Rattle.page_graph.specs.Lent.{EXPLICIT, Asked, Scratch, Edged, Within, Answered, Appended, Gathered, Finished};
+ghost use Rattle.page_graph.specs.Lent.{EXPLICIT, Asked, Scratch, Edged, Within, Answered, Appended, Gathered, number-of};
 
 // The count that says that a page is crowded.
 pub const CROWDED: usize = 4097;
@@ -111,16 +111,13 @@ fn lay_anchors(
     all
 }
 
-// Zeros behind n nodes, or everywhere if there are too many: the count that is handed back.
-fn finish(xs: &mut [i32], ys: &mut [i32], links: &mut [u32], marks: &mut [u32], n: usize) -> usize
-    requires { ⌜ Roomy (now xs) (now ys) (now links) (now marks) ⌝ }
-    ensures { λ r. ⌜ Finished n r (now (xs .entry)) (now (ys .entry)) (now (links .entry)) (now (marks .entry)) (now (xs .exit)) (now (ys .exit)) (now (links .exit)) (now (marks .exit)) ⌝ }
+// The count that is handed back for n nodes.
+fn number(n: usize) -> usize
+    ensures { λ r. ⌜ r ≡ number-of n ⌝ }
 {
     if nodes::NODES < n {
-        graph::close(xs, ys, links, marks, 0);
         return CROWDED;
     }
-    graph::close(xs, ys, links, marks, n);
     n
 }
 
@@ -149,7 +146,7 @@ fn make_graph(
     requires { ⌜ Anchored (now cx) (now cy) (now dirs) (now own) all ⌝ }
     requires { ⌜ Roomy (now xs) (now ys) (now links) (now marks) ⌝ }
     requires { ⌜ (all ≤ length (now ax)) × (all ≤ length (now ay)) ⌝ }
-    ensures { λ r. ⌜ Answered r (now (xs .exit)) (now (ys .exit)) (now (links .exit)) (now (marks .exit)) (length (now (xs .entry))) (length (now (ys .entry))) (length (now (links .entry))) (length (now (marks .entry))) (ltb NODES (whole (boxes-of (now (bx .entry)) (now (by .entry)) (now (ex .entry)) (now (ey .entry)) boxes) (anchors-of explicit (columns all (now (cx .entry)) (now (cy .entry)) (now (dirs .entry)) (now (own .entry)))) .count)) (made (boxes-of (now (bx .entry)) (now (by .entry)) (now (ex .entry)) (now (ey .entry)) boxes) (anchors-of explicit (columns all (now (cx .entry)) (now (cy .entry)) (now (dirs .entry)) (now (own .entry)))) pruned) ⌝ }
+    ensures { λ r. ⌜ Answered r (graph r (now (xs .exit)) (now (ys .exit)) (now (links .exit)) (now (marks .exit))) (ltb NODES (whole (boxes-of (now (bx .entry)) (now (by .entry)) (now (ex .entry)) (now (ey .entry)) boxes) (anchors-of explicit (columns all (now (cx .entry)) (now (cy .entry)) (now (dirs .entry)) (now (own .entry)))) .count)) (made (boxes-of (now (bx .entry)) (now (by .entry)) (now (ex .entry)) (now (ey .entry)) boxes) (anchors-of explicit (columns all (now (cx .entry)) (now (cy .entry)) (now (dirs .entry)) (now (own .entry)))) pruned) ⌝ }
 {
     let n = graph::make(
         bx,
@@ -171,7 +168,7 @@ fn make_graph(
         marks,
         pruned,
     );
-    finish(xs, ys, links, marks, n)
+    number(n)
 }
 
 // The graph of the padded boxes and of the explicit anchors, with the implicit ones behind them: the count that is handed back.
@@ -199,7 +196,7 @@ fn lay_graph(
     requires { ⌜ Anchored (now cx) (now cy) (now dirs) (now own) COORDS × (explicit ≤ EXPLICIT) ⌝ }
     requires { ⌜ (TABLE ≤ length (now table)) × (COORDS ≤ length (now ax)) × (COORDS ≤ length (now ay)) ⌝ }
     requires { ⌜ Roomy (now xs) (now ys) (now links) (now marks) ⌝ }
-    ensures { λ r. ⌜ Answered r (now (xs .exit)) (now (ys .exit)) (now (links .exit)) (now (marks .exit)) (length (now (xs .entry))) (length (now (ys .entry))) (length (now (links .entry))) (length (now (marks .entry))) (overfull (boxes-of (now (bx .entry)) (now (by .entry)) (now (ex .entry)) (now (ey .entry)) boxes) (columns explicit (now (cx .entry)) (now (cy .entry)) (now (dirs .entry)) (now (own .entry)))) (made (boxes-of (now (bx .entry)) (now (by .entry)) (now (ex .entry)) (now (ey .entry)) boxes) (all-anchors (boxes-of (now (bx .entry)) (now (by .entry)) (now (ex .entry)) (now (ey .entry)) boxes) (columns explicit (now (cx .entry)) (now (cy .entry)) (now (dirs .entry)) (now (own .entry)))) pruned) ⌝ }
+    ensures { λ r. ⌜ Answered r (graph r (now (xs .exit)) (now (ys .exit)) (now (links .exit)) (now (marks .exit))) (overfull (boxes-of (now (bx .entry)) (now (by .entry)) (now (ex .entry)) (now (ey .entry)) boxes) (columns explicit (now (cx .entry)) (now (cy .entry)) (now (dirs .entry)) (now (own .entry)))) (made (boxes-of (now (bx .entry)) (now (by .entry)) (now (ex .entry)) (now (ey .entry)) boxes) (all-anchors (boxes-of (now (bx .entry)) (now (by .entry)) (now (ex .entry)) (now (ey .entry)) boxes) (columns explicit (now (cx .entry)) (now (cy .entry)) (now (dirs .entry)) (now (own .entry)))) pruned) ⌝ }
 {
     let all = lay_anchors(
         cx,
@@ -217,7 +214,7 @@ fn lay_graph(
         boxes,
     );
     if COORDS < all {
-        return finish(xs, ys, links, marks, CROWDED);
+        return CROWDED;
     }
     make_graph(
         bx,
@@ -241,8 +238,8 @@ fn lay_graph(
     )
 }
 
-// The graph of a page's records, pruned or not: how many nodes it has, or CROWDED. The columns xs, ys, links and marks hold it, with zeros behind it,
-// and zeros alone if the page is crowded. The lists from bx to ay are scratch.
+// The graph of a page's records, pruned or not: how many nodes it has, with the graph in the columns xs, ys, links and marks, or CROWDED.
+// The lists from bx to ay are scratch.
 pub fn build(
     boxes: &[u32],
     nb: usize,
@@ -272,7 +269,7 @@ pub fn build(
     requires { ⌜ Asked (records (now boxes) nb (now ports) np (now nets) nn (now ends) ne) ⌝ }
     requires { ⌜ Scratch (now bx) (now by) (now ex) (now ey) (now cx) (now cy) (now dirs) (now own) (now table) (now ax) (now ay) ⌝ }
     requires { ⌜ Roomy (now xs) (now ys) (now links) (now marks) ⌝ }
-    ensures { λ r. ⌜ Answered r (now (xs .exit)) (now (ys .exit)) (now (links .exit)) (now (marks .exit)) (length (now (xs .entry))) (length (now (ys .entry))) (length (now (links .entry))) (length (now (marks .entry))) (crowded (records (now (boxes .entry)) nb (now (ports .entry)) np (now (nets .entry)) nn (now (ends .entry)) ne)) (page-graph (records (now (boxes .entry)) nb (now (ports .entry)) np (now (nets .entry)) nn (now (ends .entry)) ne) pruned) ⌝ }
+    ensures { λ r. ⌜ Answered r (graph r (now (xs .exit)) (now (ys .exit)) (now (links .exit)) (now (marks .exit))) (crowded (records (now (boxes .entry)) nb (now (ports .entry)) np (now (nets .entry)) nn (now (ends .entry)) ne)) (page-graph (records (now (boxes .entry)) nb (now (ports .entry)) np (now (nets .entry)) nn (now (ends .entry)) ne) pruned) ⌝ }
 {
     pad_boxes(bx, by, ex, ey, boxes, nb);
     let explicit = anchors::explicit(cx, cy, dirs, own, boxes, nb, ports, np, nets, nn, ends, ne);
@@ -298,7 +295,7 @@ pub fn build(
     )
 }
 
-// The graph of a page's records, in the lent columns: how many nodes it has, or more than there may be. The scratch is made here.
+// The graph of a page's records, in the lent columns: how many nodes it has, or CROWDED. The scratch is made here.
 pub fn graph_of(
     boxes: &[u32],
     nb: usize,
@@ -316,7 +313,7 @@ pub fn graph_of(
 ) -> usize
     requires { ⌜ Asked (records (now boxes) nb (now ports) np (now nets) nn (now ends) ne) ⌝ }
     requires { ⌜ Roomy (now xs) (now ys) (now links) (now marks) ⌝ }
-    ensures { λ r. ⌜ Answered r (now (xs .exit)) (now (ys .exit)) (now (links .exit)) (now (marks .exit)) (length (now (xs .entry))) (length (now (ys .entry))) (length (now (links .entry))) (length (now (marks .entry))) (crowded (records (now (boxes .entry)) nb (now (ports .entry)) np (now (nets .entry)) nn (now (ends .entry)) ne)) (page-graph (records (now (boxes .entry)) nb (now (ports .entry)) np (now (nets .entry)) nn (now (ends .entry)) ne) pruned) ⌝ }
+    ensures { λ r. ⌜ Answered r (graph r (now (xs .exit)) (now (ys .exit)) (now (links .exit)) (now (marks .exit))) (crowded (records (now (boxes .entry)) nb (now (ports .entry)) np (now (nets .entry)) nn (now (ends .entry)) ne)) (page-graph (records (now (boxes .entry)) nb (now (ports .entry)) np (now (nets .entry)) nn (now (ends .entry)) ne) pruned) ⌝ }
 {
     let mut bx: [i32; 64] = [0; 64];
     let mut by: [i32; 64] = [0; 64];

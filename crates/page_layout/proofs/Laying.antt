@@ -11,12 +11,11 @@ use lib.ListN.{length}
 use Rattle.fixed.specs.Up.{ups}
 use Rattle.fixed.proofs.Lists.{length-ups}
 use Rattle.nodes.specs.Graph.{Graph, NODES}
-use Rattle.nodes.specs.Lent.{graph}
 use Rattle.anchors.specs.Records.{Records}
 use Rattle.page_graph.specs.Page.{crowded, page-graph}
 use Rattle.page_graph.specs.Lent.{Asked, Answered}
 use Rattle.page_graph.specs.Claims.{Placed}
-use Rattle.page_graph.proofs.Theorem.{page-made, answer-crowded, answer-graph}
+use Rattle.page_graph.proofs.Theorem.{page-made, page-nodes, answer-crowded}
 use Rattle.wire.specs.Wires.{vertices}
 use Rattle.fixup.specs.Moves.{LOWEST, HIGHEST}
 use Rattle.page_laws.specs.Connected.{Ground}
@@ -55,10 +54,10 @@ module _ (nets : List ℕ) (x y : List ℤ) (K R nets1 : List ℕ) (x1 y1 : List
 
 -- ---- on the graph of a page
 
-module _ (r : Records) (pruned : Bool) (n : ℕ) (xs ys : List ℤ) (links marks : List ℕ) (nx ny nl nm : ℕ) (a : Answered n xs ys links marks nx ny nl nm (crowded r) (page-graph r pruned)) where
-  pub page-ground-of : Asked r → Placed r → n ≤ NODES → Ground LOWEST HIGHEST (graph n xs ys links marks)
+module _ (r : Records) (pruned : Bool) (n : ℕ) (G : Graph) (a : Answered n G (crowded r) (page-graph r pruned)) where
+  pub page-ground-of : Asked r → Placed r → n ≤ NODES → Ground LOWEST HIGHEST G
   page-ground-of asked placed h =
-      rw (answer-graph r pruned a h) (page-ground LOWEST HIGHEST (omega arith) (omega arith) (omega arith) r pruned asked placed (page-made a h))
+      rw (page-nodes a h) (page-ground LOWEST HIGHEST (omega arith) (omega arith) (omega arith) r pruned asked placed (page-made a h))
 
   pub number-is : (v : ℕ) → v ≡ number-on n → v ≡ layoutNumber r
   unfolding number-on layoutNumber
@@ -68,10 +67,10 @@ module _ (r : Records) (pruned : Bool) (n : ℕ) (xs ys : List ℤ) (links marks
       by true e = rw (e, answer-crowded r pruned a (ltb-true NODES n e))
       by false e = rw (e, page-made a (ltb-false NODES n e))
 
-  pub laid-is : (apart : Bool) (d v : Drawing) → v ≡ laid-on n (graph n xs ys links marks) (r .nets) (r .net-count) (r .ends) (r .end-count) apart d → v ≡ laid r pruned apart d
+  pub laid-is : (apart : Bool) (d v : Drawing) → v ≡ laid-on n G (r .nets) (r .net-count) (r .ends) (r .end-count) apart d → v ≡ laid r pruned apart d
   unfolding laid-on laid layoutPage routed
   laid-is apart d v q = q ∙ by (ltb NODES n) refl
     where
-      by : (t : Bool) → ltb NODES n ≡ t → laid-on n (graph n xs ys links marks) (r .nets) (r .net-count) (r .ends) (r .end-count) apart d ≡ laid r pruned apart d
+      by : (t : Bool) → ltb NODES n ≡ t → laid-on n G (r .nets) (r .net-count) (r .ends) (r .end-count) apart d ≡ laid r pruned apart d
       by true e = rw (e, answer-crowded r pruned a (ltb-true NODES n e))
-      by false e = let h = ltb-false NODES n e in rw (e, page-made a h, answer-graph r pruned a h)
+      by false e = let h = ltb-false NODES n e in rw (e, page-made a h, page-nodes a h)

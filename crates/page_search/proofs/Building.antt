@@ -1,25 +1,20 @@
 -- The search on the graph that is handed back is the search on the page.
-use mathlib.Core.Path.{_≡_, refl, sym, ap, _∙_}
-use mathlib.Core.Bool.{Bool, true, false, cond}
-use mathlib.Core.List.{List, [], _∷_, _++_}
-use Prim.Native.Nat.{ℕ, zero, suc, _+_, _-_, _*_, _<_, _≤_}
+use mathlib.Core.Path.{_≡_, refl, sym, _∙_}
+use mathlib.Core.Bool.{Bool, true, false}
+use mathlib.Core.List.{List, []}
+use Prim.Native.Nat.{ℕ, zero, suc, _+_, _<_, _≤_}
 use native.Mathlib.Omega.{arith}
 use borrow.Author.Tests.{le-ltb}
-use lib.Dec.{ltb}
-use lib.IntN.{ℤ}
 use lib.ListN.{length, getD}
-use Rattle.fixed.specs.Up.{BIAS, ups}
+use Rattle.fixed.specs.Up.{BIAS}
 use Rattle.nodes.specs.Graph.{Graph, NODES}
-use Rattle.nodes.specs.Lent.{graph}
 use Rattle.astar.specs.Reached.{LIMIT, Ready}
-use Rattle.path_finding.specs.Line.{table, place-at, kind-at, direction-at, Written}
-use Rattle.path_finding.specs.Places.{line-between}
-use Rattle.search.specs.Searched.{Searched}
+use Rattle.path_finding.specs.Line.{table, place-at, direction-at, Written}
 use Rattle.anchors.specs.Records.{Records}
 use Rattle.page_graph.specs.Page.{crowded, page-graph, number}
-use Rattle.page_graph.proofs.Theorem.{page-sound, page-made, page-nodes}
+use Rattle.page_graph.proofs.Theorem.{page-sound, page-made}
 use Rattle.page_graph.specs.Lent.{Asked, Answered}
-use Rattle.page_search.specs.Page.{CROWDED, searchNumber, searchLine, PageSearched}
+use Rattle.page_search.specs.Page.{searchNumber, searchLine, PageSearched}
 use Rattle.page_search.specs.Lent.{Tried}
 use Rattle.page_search.specs.Exists.{Sound}
 use Rattle.page_search.proofs.Ready.{page-ready}
@@ -50,12 +45,9 @@ written-none cx cy ls dx dy ms a b c d w =
 
 -- ---- the lent lists hold the graph
 
-module _ (r : Records) (s : Sound r) (pruned : Bool) (n : ℕ) (xs ys : List ℤ) (links marks : List ℕ) (nx ny nl nm : ℕ) (a : Answered n xs ys links marks nx ny nl nm (crowded r) (page-graph r pruned)) where
+module _ (r : Records) (s : Sound r) (pruned : Bool) (n : ℕ) (H : Graph) (a : Answered n H (crowded r) (page-graph r pruned)) where
   abbrev G : Graph
   G = page-graph r pruned
-
-  abbrev H : Graph
-  H = graph n xs ys links marks
 
   count-is : crowded r ≡ false → n ≡ G .count
   unfolding number
@@ -68,11 +60,8 @@ module _ (r : Records) (s : Sound r) (pruned : Bool) (n : ℕ) (xs ys : List ℤ
   under : crowded r ≡ false → n ≤ NODES
   under e = omega (arith, count-is e, page-sound r pruned e .wf .few)
 
-  graph-is : crowded r ≡ false → H ≡ G
-  graph-is e = page-nodes a (under e) (page-sound r pruned e .wf)
-
   pub ready : n ≤ NODES → 0 < n → Ready H
-  ready h p = let e = page-made a h in rw (graph-is e) (page-ready r s e pruned (omega (arith, count-is e)))
+  ready h p = let e = page-made a h in rw (a .same e) (page-ready r s e pruned (omega (arith, count-is e)))
 
   pub page-searched : (x y : ℕ) (exs eys : List ℕ) (num nodes : ℕ) (lx ly kinds dirs : List ℕ) → Tried n H x y exs eys num nodes lx ly kinds dirs → PageSearched r pruned x y exs eys num nodes lx ly kinds dirs
   unfolding searchNumber searchLine
@@ -83,7 +72,7 @@ module _ (r : Records) (s : Sound r) (pruned : Bool) (n : ℕ) (xs ys : List ℤ
           let f = t .full (over e) in
           record { number-is = rw e (f .0); nodes-is = rw e (f .1); written = rw e (written-none [] [] [] (G .xs) (G .ys) (G .links) lx ly kinds dirs (f .2)) }
       go false e =
-          let f = rw (graph-is e) at (t .fits (under e)) in
+          let f = rw (a .same e) at (t .fits (under e)) in
           record { number-is = rw e (f .number-is); nodes-is = rw e (f .nodes-is); written = rw e (f .written) }
 
 pub sound-of : {r : Records} → Asked r → ((k : ℕ) → getD (r .ports) k 0 < LIMIT) → ((k : ℕ) → getD (r .ends) k 0 < LIMIT) → Sound r

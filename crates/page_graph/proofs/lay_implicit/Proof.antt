@@ -1,9 +1,8 @@
--- What the corridors filled, lent behind the first n anchors.
-use Rattle.corridors.proofs.Crossing.{implicit-level}
+-- What the corridors laid, lent behind the first n anchors.
 use native.Mathlib.Omega.{arith}
+use Rattle.corridors.specs.Sizes.{ANCHORS}
 use Rattle.page_graph.specs.Page.{implicit}
 use Rattle.page_graph.proofs.Laying.{room-behind, boxes-held, appended}
-use Rattle.corridors.specs.Sizes.{ANCHORS}
 use borrow.Author.Needs.{needs}
 use Rattle.page_graph.proofs.lay_implicit.Statement.{statement}
 use Rattle.page_graph.proofs.lay_implicit.Tie as tie
@@ -73,7 +72,9 @@ returns : tie.Need-returns
 unfolding implicit
 returns c =
     let a = c .before .before .before .before .before .before .before .before .before .before .before .before .before .before .before .before .before .args in
-    appended _ (a .n) (a .cx .now) (a .cy .now) _ _ _ _ (a .dirs .now) _ _ _ _ _ _ (c .before .before .before .before .before .before .before .before .generate-implicit-anchors .ensures) (implicit-level _ _ _ _) (omega arith) (omega arith) (omega arith)
+    let p = c .before .before .before .before .before .before .before .before .before .before .before .before .before .before .before .before .before .pre .0 in
+    let k = c .before .before .before .before .before .before .before .before .generate-implicit-anchors .kept in
+    appended _ (a .n) (a .cx .now) (a .cy .now) _ _ _ _ (a .dirs .now) _ _ _ (c .before .before .before .before .before .before .before .before .generate-implicit-anchors .ensures) (omega arith) (omega arith) (omega arith) (omega (arith, k .1 .0, room-behind (a .n) ANCHORS (a .cx .now) (p .0))) (omega (arith, k .1 .1 .0, room-behind (a .n) ANCHORS (a .cy .now) (p .1))) (omega (arith, k .1 .1 .1 .1 .1 .0, room-behind (a .n) ANCHORS (a .dirs .now) (p .2)))
 
 pub lay-implicit-spec : {M : Type 1} → statement M
 lay-implicit-spec =

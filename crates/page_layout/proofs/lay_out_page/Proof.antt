@@ -37,7 +37,7 @@ lay-on-requires c κs =
     let s = c .before .before .before .before .before .before .before .before .before .before .before .before .before .before .before .before .before .before .before .before .before .before .before .before .before .pre in
     let h = s .0 .held in
     let l = s .1 .1 .0 in
-    (page-ground-of _ (c .before .before .before .before .before .before .before .before .before .before .before .before .before .before .before .before .before .before .before .before .before .before .before .before .before .args .pruned) _ _ _ _ _ _ _ _ _ (c .before .before .before .before .before .before .before .before .before .before .before .before .before .graph-of .ensures) (s .0) (s .1 .0), ((s .1 .1 .1 .0, omega (arith, h .nets-held), s .1 .1 .1 .1, h .ends-held, l .0), (l .1, l .2, l .3, l .4)))
+    (page-ground-of _ (c .before .before .before .before .before .before .before .before .before .before .before .before .before .before .before .before .before .before .before .before .before .before .before .before .before .args .pruned) _ _ (c .before .before .before .before .before .before .before .before .before .before .before .before .before .graph-of .ensures) (s .0) (s .1 .0), ((s .1 .1 .1 .0, omega (arith, h .nets-held), s .1 .1 .1 .1, h .ends-held, l .0), (l .1, l .2, l .3, l .4)))
 
 same-length : tie.Need-same-length
 same-length c = search needs
@@ -58,7 +58,7 @@ returns : tie.Need-returns
 returns c =
     let a = c .before .before .before .before .before .before .before .before .before .before .before .before .before .before .before .before .before .before .before .before .before .before .graph-of .ensures in
     let p = c .before .before .before .before .before .before .before .before .before .before .before .before .before .before .before .before .before .before .before .before .before .before .before .before .before .before .before .before .before .before .before .before .before .before .args .pruned in
-    (number-is _ p _ _ _ _ _ _ _ _ _ a _ (c .before .before .before .before .before .before .before .before .lay-on .ensures .0), laid-is _ p _ _ _ _ _ _ _ _ _ a (c .before .before .before .before .before .before .before .before .before .before .before .before .before .before .before .before .before .before .before .before .before .before .before .before .before .before .before .before .before .before .before .before .before .before .args .apart) _ _ (c .before .before .before .before .before .before .before .before .lay-on .ensures .1))
+    (number-is _ p _ _ a _ (c .before .before .before .before .before .before .before .before .lay-on .ensures .0), laid-is _ p _ _ a (c .before .before .before .before .before .before .before .before .before .before .before .before .before .before .before .before .before .before .before .before .before .before .before .before .before .before .before .before .before .before .before .before .before .before .args .apart) _ _ (c .before .before .before .before .before .before .before .before .lay-on .ensures .1))
 
 pub lay-out-page-spec : {M : Type 1} → statement M
 lay-out-page-spec =
