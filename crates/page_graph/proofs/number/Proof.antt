@@ -1,12 +1,13 @@
 use borrow.Author.Tests.{lt-ltb, le-ltb}
+use Rattle.nodes.specs.Graph.{NODES}
 use Rattle.page_graph.proofs.number.Statement.{statement}
 use Rattle.page_graph.proofs.number.Tie as tie
 
 returns : tie.Need-returns
-returns c = rw (lt-ltb _ _ (c .if1 .taken))
+returns c = rw (lt-ltb NODES _ (c .if1 .taken))
 
 returns-2 : tie.Need-returns-2
-returns-2 c = rw (le-ltb _ _ (c .if1 .left))
+returns-2 c = rw (le-ltb NODES _ (c .if1 .left))
 
 pub number-spec : {M : Type 1} → statement M
 number-spec = tie.close (tie.spec returns returns-2)
