@@ -147,7 +147,7 @@ module _ (P : Vertices) (R : List ℕ) (j : ℕ) where
       all G px py (rootFrom px py) (rootTo px py) (length px) _ (record { page = root G px py (rootFrom px py) (rootTo px py) (wires P noEnds) (kept-self P); joins = record { same = refl; long = refl; on = omega arith } })
 
 -- wiping behind what was kept
-closed-same : (z n : ℕ) (l m : List ℕ) → take n m ≡ take n l → length m ≡ length l → closed z n m ≡ closed z n l
+pub closed-same : (z n : ℕ) (l m : List ℕ) → take n m ≡ take n l → length m ≡ length l → closed z n m ≡ closed z n l
 unfolding closed
 closed-same z n l m e h = rw (e, h)
 

@@ -7,7 +7,7 @@ use native.Mathlib.Numerals.{add-one}
 use native.Mathlib.Omega.{arith}
 use native.Mathlib.Decide.{decLt}
 use lib.Dec.{eqb, ltb}
-use lib.ListN.{length, getD, take, replicate}
+use lib.ListN.{length, getD, take, replicate, length-replicate}
 use borrow.Author.Tests.{eq-eqb, ne-eqb, lt-ltb, le-ltb}
 use Rattle.nodes.specs.Graph.{Graph}
 use Rattle.path_finding.specs.Places.{known}
@@ -20,6 +20,7 @@ use Rattle.net.specs.Nets.{Branched, branched, rootWire, branchAt, branchesTo, 
 use Rattle.net.proofs.Branching.{Bounded, bounds-now, wire-bounds}
 use Rattle.connect.specs.Turns.{turnAt, turnsTo, outcome}
 use Rattle.connect.proofs.Keeping.{net-still, wiped}
+use Rattle.connect.proofs.Unused.{turns-unused}
 
 -- ---- one turn
 
@@ -72,15 +73,16 @@ module _ (G : Graph) (px py : List ℕ) (a b : ℕ) where
       let q : S ≡ S₀ = subst (λ (i : ℕ). S ≡ turnsTo G px py a b i S₀) z e ∙ sym (turns-none S₀) in
       (rw q h, rw q m)
 
-pub turns-all : (G : Graph) (px py : List ℕ) (p : ℕ) (P : Vertices) (E R : List ℕ) (j : ℕ) (X : Branched) → E ≡ replicate END-WORDS 0 → p ≡ rootPair px py (length px)
+-- from no ends, whatever the rows hold
+pub turns-all : (G : Graph) (px py : List ℕ) (p : ℕ) (P : Vertices) (E R : List ℕ) (j : ℕ) (X : Branched) → length E ≡ END-WORDS → p ≡ rootPair px py (length px)
     → X ≡ turnsTo G px py (p / length px) (p % length px) (length px + 1) (branched 0 (wires P (endsOf E 0)) R j) → outcome X ≡ outcome (routeNet G px py P R j)
 unfolding routeNet noEnds
-turns-all G px py p P E R j X e q x =
-    let s : X ≡ branchesTo G px py (p / length px) (p % length px) (length px) (after G px py (p / length px) (p % length px) (branched 0 (wires P (endsOf E 0)) R j)) = x ∙ ap (λ (i : ℕ). turnsTo G px py (p / length px) (p % length px) i (branched 0 (wires P (endsOf E 0)) R j)) (more (length px)) ∙ turns-are G px py (p / length px) (p % length px) (length px) (branched 0 (wires P (endsOf E 0)) R j) in
-    rw (← q, ← e) (ap (λ (S : Branched). outcome S) s)
+turns-all G px py p P E R j X e q x = rw (← q) (ap (λ (S : Branched). outcome S) x ∙ by END-WORDS e)
   where
-    more : (n : ℕ) → n + 1 ≡ suc n
-    more n = omega arith
+    by : (n : ℕ) → length E ≡ n → outcome (turnsTo G px py (p / length px) (p % length px) (length px + 1) (branched 0 (wires P (endsOf E 0)) R j))
+        ≡ outcome (branchesTo G px py (p / length px) (p % length px) (length px) (after G px py (p / length px) (p % length px) (branched 0 (wires P (endsOf (replicate n 0) 0)) R j)))
+    by n h =
+        turns-unused G px py _ _ (length px + 1) P E (replicate n 0) R j (h ∙ sym (length-replicate n 0)) ∙ rw (add-one) (ap (λ (S : Branched). outcome S) (turns-are G px py (p / length px) (p % length px) (length px) (branched 0 (wires P (endsOf (replicate n 0) 0)) R j)))
 
 -- ---- the root pair
 

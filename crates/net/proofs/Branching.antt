@@ -20,7 +20,7 @@ use Rattle.net.specs.Nets.{Branched, branched, along, branchLine, branch
 -- ---- bounds
 
 -- a wire that was made leaves an end or more
-some-ends : (L : Line) (sx sy ex ey : ℕ) (ahead isRoot : Bool) (J : Junction) (W : Wires) → routeWire L sx sy ex ey ahead isRoot J W .number ≡ 0 → 0 < routeWire L sx sy ex ey ahead isRoot J W .wires .net .m
+pub some-ends : (L : Line) (sx sy ex ey : ℕ) (ahead isRoot : Bool) (J : Junction) (W : Wires) → routeWire L sx sy ex ey ahead isRoot J W .number ≡ 0 → 0 < routeWire L sx sy ex ey ahead isRoot J W .wires .net .m
 unfolding routeWire lineWire fallbackWire
 some-ends L sx sy ex ey ahead isRoot J W = by (eqb (L .count) 0) refl
   where
@@ -71,13 +71,22 @@ not-or : (b d : Bool) → (not b || d) ≡ false → b ≡ true
 not-or true d e = refl
 not-or false d e = sym e
 
-at-bounds : (G : Graph) (px py : List ℕ) (a b i : ℕ) (S : Branched) → (S .number ≡ 0 → Bounded S) → branchAt G px py a b i S .number ≡ 0 → Bounded (branchAt G px py a b i S)
+-- a branch is only tried where nothing is refused
+pub unrefused : (n : ℕ) (d : Bool) → (not (eqb n 0) || d) ≡ false → n ≡ 0
+unrefused n d e = eqb-true _ _ (not-or (eqb n 0) d e)
+
+-- what holds of S, and of the branch where it is tried
+pub at-either : (Q : Branched → Type 0) (G : Graph) (px py : List ℕ) (a b i : ℕ) (S : Branched) → Q S → (S .number ≡ 0 → Q (branchFrom G (getD px i 0) (getD py i 0) S)) → Q (branchAt G px py a b i S)
 unfolding branchAt
-at-bounds G px py a b i S B = by (not (eqb (S .number) 0) || (eqb i a || eqb i b)) refl
+at-either Q G px py a b i S s t = by (not (eqb (S .number) 0) || (eqb i a || eqb i b)) refl
   where
-    by : (t : Bool) → (not (eqb (S .number) 0) || (eqb i a || eqb i b)) ≡ t → cond t S (branchFrom G (getD px i 0) (getD py i 0) S) .number ≡ 0 → Bounded (cond t S (branchFrom G (getD px i 0) (getD py i 0) S))
-    by true e = B
-    by false e = from-bounds G (getD px i 0) (getD py i 0) S (B (eqb-true _ _ (not-or (eqb (S .number) 0) (eqb i a || eqb i b) e)))
+    by : (c : Bool) → (not (eqb (S .number) 0) || (eqb i a || eqb i b)) ≡ c → Q (cond c S (branchFrom G (getD px i 0) (getD py i 0) S))
+    by true e = s
+    by false e = t (unrefused (S .number) (eqb i a || eqb i b) e)
+
+at-bounds : (G : Graph) (px py : List ℕ) (a b i : ℕ) (S : Branched) → (S .number ≡ 0 → Bounded S) → branchAt G px py a b i S .number ≡ 0 → Bounded (branchAt G px py a b i S)
+at-bounds G px py a b i S B =
+    at-either (λ (X : Branched). X .number ≡ 0 → Bounded X) G px py a b i S B (λ z. from-bounds G (getD px i 0) (getD py i 0) S (B z))
 
 to-bounds : (G : Graph) (px py : List ℕ) (a b k : ℕ) (S : Branched) → (S .number ≡ 0 → Bounded S) → branchesTo G px py a b k S .number ≡ 0 → Bounded (branchesTo G px py a b k S)
 unfolding branchesTo

@@ -27,7 +27,7 @@ unfolding firstFrom
 first-le zero E px py i = omega arith
 first-le (suc k) E px py i = cond-le (stands E px py i) _ _ _ (omega arith) (omega (arith, first-le k E px py (i + 1)))
 
-nearest-le : (E : List ℕ) (px py m : ℕ) → nearestEnd E px py m ≤ m - 1
+pub nearest-le : (E : List ℕ) (px py m : ℕ) → nearestEnd E px py m ≤ m - 1
 unfolding nearestEnd
 nearest-le E px py zero = omega arith
 nearest-le E px py (suc m) =

@@ -35,7 +35,7 @@ same-length-4 : tie.Need-same-length-4
 same-length-4 c = c .before .before .before .before .before .before .before .turns .kept .1 .1 .1 .1 .1 .1 .1 .1 .1 .1 .1 .1 .1 .1 .0
 
 returns : tie.Need-returns
-returns c = turns-all _ _ _ _ _ _ _ _ _ refl (c .before .before .before .before .before .before .before .before .before .before .before .before .before .pick-root-path .ensures) (c .before .before .before .before .before .before .before .turns .ensures)
+returns c = turns-all _ _ _ _ _ _ _ _ _ (search needs) (c .before .before .before .before .before .before .before .before .before .before .before .before .before .pick-root-path .ensures) (c .before .before .before .before .before .before .before .turns .ensures)
 
 pub route-net-spec : {M : Type 1} → statement M
 route-net-spec =
