@@ -9,8 +9,8 @@ ghost use Rattle.nodes.specs.Lent.{graph};
 ghost use Rattle.astar.specs.Reached.{Ready};
 ghost use Rattle.path_finding.specs.Places.{known};
 ghost use Rattle.wire.specs.Wires.{vertices, ends as endsOf, wires};
-ghost use Rattle.net.specs.Nets.{branched, routeNet, net, connectNet};
-ghost use Rattle.net.specs.Lent.{Page, Bounds};
+ghost use Rattle.net.specs.Nets.{END-WORDS, branched, routeNet, net, connectNet};
+ghost use Rattle.net.specs.Lent.{Space, Page, Bounds};
 ghost use Rattle.connect.specs.Turns.{turnAt, turnsTo, outcome};
 use net::Done;
 use net::Made;
@@ -36,11 +36,16 @@ fn turn_at(
     m: usize,
     joins: &mut [u32],
     j: usize,
+    lx: &mut [i32],
+    ly: &mut [i32],
+    kinds: &mut [u8],
+    ways: &mut [u8],
 ) -> Made
     requires { ⌜ (0 < n → Ready (graph n (now xs) (now ys) (now links) (now marks))) ⌝ }
     requires { ⌜ Page (length (now x)) (length (now y)) (length (now letters)) (length (now rows)) ⌝ }
     requires { ⌜ (a < length (now px)) × (b < length (now px)) × (length (now px) ≤ 256) × (length (now py) ≡ length (now px)) × (768 ≤ length (now joins)) ⌝ }
     requires { ⌜ (k < length (now px) + 1) × (k ≡ 0 → (count ≤ 512) × (m ≡ 0)) × (0 < k → number ≡ 0 → Bounds count m j) ⌝ }
+    requires { ⌜ Space (length (now lx)) (length (now ly)) (length (now kinds)) (length (now ways)) ⌝ }
     ensures { λ r. ⌜ branched (r .number) (wires (vertices (ups (now (x .exit))) (ups (now (y .exit))) (now (letters .exit)) (r .n)) (endsOf (now (rows .exit)) (r .m))) (now (joins .exit)) (r .j) ≡ turnAt (graph n (now (xs .entry)) (now (ys .entry)) (now (links .entry)) (now (marks .entry))) (now (px .entry)) (now (py .entry)) a b k (branched number (wires (vertices (ups (now (x .entry))) (ups (now (y .entry))) (now (letters .entry)) count) (endsOf (now (rows .entry)) m)) (now (joins .entry)) j) ⌝ }
 {
     if k == 0 {
@@ -59,6 +64,10 @@ fn turn_at(
             letters,
             count,
             rows,
+            lx,
+            ly,
+            kinds,
+            ways,
         );
         return Made {
             number: t.number,
@@ -87,6 +96,10 @@ fn turn_at(
         m,
         joins,
         j,
+        lx,
+        ly,
+        kinds,
+        ways,
     )
 }
 
@@ -108,10 +121,15 @@ fn turns(
     rows: &mut [u32],
     joins: &mut [u32],
     j: usize,
+    lx: &mut [i32],
+    ly: &mut [i32],
+    kinds: &mut [u8],
+    ways: &mut [u8],
 ) -> Made
     requires { ⌜ (0 < n → Ready (graph n (now xs) (now ys) (now links) (now marks))) ⌝ }
     requires { ⌜ Page (length (now x)) (length (now y)) (length (now letters)) (length (now rows)) ⌝ }
     requires { ⌜ (a < length (now px)) × (b < length (now px)) × (length (now px) ≤ 256) × (length (now py) ≡ length (now px)) × (count ≤ 512) × (2 * j ≤ count) × (768 ≤ length (now joins)) ⌝ }
+    requires { ⌜ Space (length (now lx)) (length (now ly)) (length (now kinds)) (length (now ways)) ⌝ }
     ensures { λ r. ⌜ branched (r .number) (wires (vertices (ups (now (x .exit))) (ups (now (y .exit))) (now (letters .exit)) (r .n)) (endsOf (now (rows .exit)) (r .m))) (now (joins .exit)) (r .j) ≡ turnsTo (graph n (now (xs .entry)) (now (ys .entry)) (now (links .entry)) (now (marks .entry))) (now (px .entry)) (now (py .entry)) a b (length (now (px .entry)) + 1) (branched 0 (wires (vertices (ups (now (x .entry))) (ups (now (y .entry))) (now (letters .entry)) count) (endsOf (now (rows .entry)) 0)) (now (joins .entry)) j) ⌝ }
 {
     let mut num: u32 = 0;
@@ -140,6 +158,10 @@ fn turns(
             m,
             joins,
             joint,
+            lx,
+            ly,
+            kinds,
+            ways,
         );
         num = r.number;
         total = r.n;
@@ -170,13 +192,19 @@ fn route_net(
     count: usize,
     joins: &mut [u32],
     j: usize,
+    rows: &mut [u32],
+    lx: &mut [i32],
+    ly: &mut [i32],
+    kinds: &mut [u8],
+    ways: &mut [u8],
 ) -> Done
     requires { ⌜ (0 < n → Ready (graph n (now xs) (now ys) (now links) (now marks))) ⌝ }
     requires { ⌜ (2 ≤ length (now px)) × (length (now px) ≤ 256) × (length (now py) ≡ length (now px)) ⌝ }
     requires { ⌜ (512 ≤ length (now x)) × (512 ≤ length (now y)) × (512 ≤ length (now letters)) × (768 ≤ length (now joins)) × (count ≤ 512) × (2 * j ≤ count) ⌝ }
+    requires { ⌜ length (now rows) ≡ END-WORDS ⌝ }
+    requires { ⌜ Space (length (now lx)) (length (now ly)) (length (now kinds)) (length (now ways)) ⌝ }
     ensures { λ r. ⌜ net (r .number) (vertices (ups (now (x .exit))) (ups (now (y .exit))) (now (letters .exit)) (r .n)) (now (joins .exit)) (r .j) ≡ outcome (routeNet (graph n (now (xs .entry)) (now (ys .entry)) (now (links .entry)) (now (marks .entry))) (now (px .entry)) (now (py .entry)) (vertices (ups (now (x .entry))) (ups (now (y .entry))) (now (letters .entry)) count) (now (joins .entry)) j) ⌝ }
 {
-    let mut rows: [u32; 16384] = [0; 16384];
     let p = routing::pick_root_path(px, py);
     let a = p / px.len();
     let b = p % px.len();
@@ -194,9 +222,13 @@ fn route_net(
         y,
         letters,
         count,
-        &mut rows,
+        rows,
         joins,
         j,
+        lx,
+        ly,
+        kinds,
+        ways,
     );
     Done {
         number: t.number,
@@ -234,10 +266,17 @@ pub fn connect_net(
     count: usize,
     joins: &mut [u32],
     j: usize,
+    rows: &mut [u32],
+    lx: &mut [i32],
+    ly: &mut [i32],
+    kinds: &mut [u8],
+    ways: &mut [u8],
 ) -> Done
     requires { ⌜ (0 < n → Ready (graph n (now xs) (now ys) (now links) (now marks))) ⌝ }
     requires { ⌜ (length (now px) ≤ 256) × (length (now py) ≡ length (now px)) ⌝ }
     requires { ⌜ (512 ≤ length (now x)) × (512 ≤ length (now y)) × (512 ≤ length (now letters)) × (768 ≤ length (now joins)) × (count ≤ 512) × (2 * j ≤ count) ⌝ }
+    requires { ⌜ length (now rows) ≡ END-WORDS ⌝ }
+    requires { ⌜ Space (length (now lx)) (length (now ly)) (length (now kinds)) (length (now ways)) ⌝ }
     ensures { λ r. ⌜ net (r .number) (vertices (ups (now (x .exit))) (ups (now (y .exit))) (now (letters .exit)) (r .n)) (now (joins .exit)) (r .j) ≡ connectNet (graph n (now (xs .entry)) (now (ys .entry)) (now (links .entry)) (now (marks .entry))) (now (px .entry)) (now (py .entry)) (vertices (ups (now (x .entry))) (ups (now (y .entry))) (now (letters .entry)) count) (now (joins .entry)) j ⌝ }
 {
     let number = prior(xs, ys, n, px, py);
@@ -258,6 +297,11 @@ pub fn connect_net(
         count,
         joins,
         j,
+        rows,
+        lx,
+        ly,
+        kinds,
+        ways,
     );
     if r.number != 0 {
         return net::refuse(r.number, x, y, letters, count, joins, j);

@@ -11,6 +11,8 @@ ghost use Rattle.astar.specs.Reached.{Ready};
 ghost use Rattle.layout.specs.Layout.{NET-ROW, putNet, page, blank, netOf, withNet, netsTo, drawn, Fit};
 ghost use Rattle.fixup.specs.Moves.{LOWEST, HIGHEST};
 ghost use Rattle.page_laws.specs.Connected.{Ground};
+ghost use Rattle.net.specs.Nets.{END-WORDS};
+ghost use Rattle.net.specs.Lent.{Space};
 
 // Separates the wires of the first n vertices, with j junctions.
 fn separate(x: &mut [i32], y: &mut [i32], kinds: &[u8], n: usize, joins: &[u32], j: usize)
@@ -84,10 +86,17 @@ fn lay_net(
     count: usize,
     joins: &mut [u32],
     j: usize,
+    rows: &mut [u32],
+    lx: &mut [i32],
+    ly: &mut [i32],
+    kinds: &mut [u8],
+    ways: &mut [u8],
 ) -> Counts
     requires { ⌜ (0 < n → Ready (graph n (now xs) (now ys) (now links) (now marks))) ⌝ }
     requires { ⌜ (ne ≤ 256) × (ne * 4 ≤ length (now ends)) × (i < 64) × (320 ≤ length (now nets)) ⌝ }
     requires { ⌜ (512 ≤ length (now x)) × (512 ≤ length (now y)) × (512 ≤ length (now letters)) × (768 ≤ length (now joins)) × (count ≤ 512) × (2 * j ≤ count) ⌝ }
+    requires { ⌜ length (now rows) ≡ END-WORDS ⌝ }
+    requires { ⌜ Space (length (now lx)) (length (now ly)) (length (now kinds)) (length (now ways)) ⌝ }
     ensures { λ r. ⌜ (page (now (nets .exit)) (vertices (ups (now (x .exit))) (ups (now (y .exit))) (now (letters .exit)) (r .n)) (now (joins .exit)) (r .j)) ≡ withNet i (netOf (graph n (now (xs .entry)) (now (ys .entry)) (now (links .entry)) (now (marks .entry))) (now (ends .entry)) ne id (page (now (nets .entry)) (vertices (ups (now (x .entry))) (ups (now (y .entry))) (now (letters .entry)) count) (now (joins .entry)) j)) (page (now (nets .entry)) (vertices (ups (now (x .entry))) (ups (now (y .entry))) (now (letters .entry)) count) (now (joins .entry)) j) ⌝ }
     ensures { λ r. ⌜ Fit (r .n) (r .j) ⌝ }
 {
@@ -108,13 +117,18 @@ fn lay_net(
         count,
         joins,
         j,
+        rows,
+        lx,
+        ly,
+        kinds,
+        ways,
     );
     record_net(nets, i, r.number, count, r.n, j, r.j);
     Counts { n: r.n, j: r.j }
 }
 
-// Routes all nets, on a page that has none.
-fn lay_nets(
+// Routes all nets, on a page that has none. Rows, lx, ly, kinds and ways are scratch.
+fn lay_each(
     xs: &[i32],
     ys: &[i32],
     links: &[u32],
@@ -129,10 +143,17 @@ fn lay_nets(
     y: &mut [i32],
     letters: &mut [u8],
     joins: &mut [u32],
+    rows: &mut [u32],
+    lx: &mut [i32],
+    ly: &mut [i32],
+    kinds: &mut [u8],
+    ways: &mut [u8],
 ) -> Counts
     requires { ⌜ (0 < n → Ready (graph n (now xs) (now ys) (now links) (now marks))) ⌝ }
     requires { ⌜ (nn ≤ 64) × (nn ≤ length (now ids)) × (ne ≤ 256) × (ne * 4 ≤ length (now ends)) × (320 ≤ length (now nets)) ⌝ }
     requires { ⌜ (512 ≤ length (now x)) × (512 ≤ length (now y)) × (512 ≤ length (now letters)) × (768 ≤ length (now joins)) ⌝ }
+    requires { ⌜ length (now rows) ≡ END-WORDS ⌝ }
+    requires { ⌜ Space (length (now lx)) (length (now ly)) (length (now kinds)) (length (now ways)) ⌝ }
     ensures { λ r. ⌜ (page (now (nets .exit)) (vertices (ups (now (x .exit))) (ups (now (y .exit))) (now (letters .exit)) (r .n)) (now (joins .exit)) (r .j)) ≡ netsTo (graph n (now (xs .entry)) (now (ys .entry)) (now (links .entry)) (now (marks .entry))) (now (ids .entry)) (now (ends .entry)) ne nn (page (now (nets .entry)) (vertices (ups (now (x .entry))) (ups (now (y .entry))) (now (letters .entry)) 0) (now (joins .entry)) 0) ⌝ }
     ensures { λ r. ⌜ Fit (r .n) (r .j) ⌝ }
 {
@@ -157,12 +178,68 @@ fn lay_nets(
             count,
             joins,
             j,
+            rows,
+            lx,
+            ly,
+            kinds,
+            ways,
         );
         count = c.n;
         j = c.j;
         i += 1;
     }
     Counts { n: count, j: j }
+}
+
+// The same, with the scratch made here: once a page, since no net leaves anything in it that another reads.
+fn lay_nets(
+    xs: &[i32],
+    ys: &[i32],
+    links: &[u32],
+    marks: &[u32],
+    n: usize,
+    ids: &[u32],
+    nn: usize,
+    ends: &[u32],
+    ne: usize,
+    nets: &mut [u32],
+    x: &mut [i32],
+    y: &mut [i32],
+    letters: &mut [u8],
+    joins: &mut [u32],
+) -> Counts
+    requires { ⌜ (0 < n → Ready (graph n (now xs) (now ys) (now links) (now marks))) ⌝ }
+    requires { ⌜ (nn ≤ 64) × (nn ≤ length (now ids)) × (ne ≤ 256) × (ne * 4 ≤ length (now ends)) × (320 ≤ length (now nets)) ⌝ }
+    requires { ⌜ (512 ≤ length (now x)) × (512 ≤ length (now y)) × (512 ≤ length (now letters)) × (768 ≤ length (now joins)) ⌝ }
+    ensures { λ r. ⌜ (page (now (nets .exit)) (vertices (ups (now (x .exit))) (ups (now (y .exit))) (now (letters .exit)) (r .n)) (now (joins .exit)) (r .j)) ≡ netsTo (graph n (now (xs .entry)) (now (ys .entry)) (now (links .entry)) (now (marks .entry))) (now (ids .entry)) (now (ends .entry)) ne nn (page (now (nets .entry)) (vertices (ups (now (x .entry))) (ups (now (y .entry))) (now (letters .entry)) 0) (now (joins .entry)) 0) ⌝ }
+    ensures { λ r. ⌜ Fit (r .n) (r .j) ⌝ }
+{
+    let mut rows: [u32; 16384] = [0; 16384];
+    let mut lx: [i32; 4096] = [0; 4096];
+    let mut ly: [i32; 4096] = [0; 4096];
+    let mut kinds: [u8; 4096] = [0; 4096];
+    let mut ways: [u8; 4096] = [0; 4096];
+    lay_each(
+        xs,
+        ys,
+        links,
+        marks,
+        n,
+        ids,
+        nn,
+        ends,
+        ne,
+        nets,
+        x,
+        y,
+        letters,
+        joins,
+        &mut rows,
+        &mut lx,
+        &mut ly,
+        &mut kinds,
+        &mut ways,
+    )
 }
 
 // Lays out all nets of a page on its graph, and separates the wires if asked.

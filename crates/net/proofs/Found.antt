@@ -24,6 +24,7 @@ use Rattle.search.specs.Searched.{Searched}
 use Rattle.vertex.specs.declared.Junction.{Junction}
 use Rattle.wire.specs.Wires.{ends as endsOf, Wires}
 use Rattle.routing.specs.Branches.{Tried, Columns, routeWire, routeBranch, joinBranch}
+use Rattle.net.specs.Lent.{Space}
 use Rattle.net.specs.Nets.{lineOf, foundLine, endWord, branchLine}
 
 pub take-table : (f : ℕ → ℕ) (m n : ℕ) → m ≤ n → take m (table f n) ≡ table f m
@@ -56,13 +57,6 @@ few G w x y exs eys = by (ltb (start-of G x y) (G .count)) refl
         let h = ltb-true _ _ e in
         known (ends-known G exs eys) _ (right G (w (omega arith)) (ends-of G exs eys) (start-of G x y) h .few)
     by false e = zero-le
-
-pub most : (G : Graph) → (0 < G .count → Ready G) → (x y : ℕ) (exs eys : List ℕ) → length (line-between G x y exs eys) ≤ NODES
-most G w x y exs eys = by (decLt 0 (G .count)) (few G w x y exs eys)
-  where
-    by : Dec (0 < G .count) → length (line-between G x y exs eys) ≤ G .count → length (line-between G x y exs eys) ≤ NODES
-    by (yes h) l = omega (arith, w h .wf .few)
-    by (no h) l = omega arith
 
 -- what a search wrote
 pub found-is : (G : Graph) (x y : ℕ) (exs eys : List ℕ) (r : ℕ) (lx ly kinds ways : List ℕ) → r ≡ length (line-between G x y exs eys)
@@ -109,13 +103,24 @@ parts-ended k l m a b h =
 
 -- ---- what is lent
 
--- the line of a search, in columns with room for it
-pub found-by : (G : Graph) → (0 < G .count → Ready G) → (x y : ℕ) (exs eys : List ℕ) (num r : ℕ) (lx ly : List ℤ) (kinds ways : List ℕ) → Searched G x y exs eys num r (ups lx) (ups ly) kinds ways
-    → NODES ≤ length lx → NODES ≤ length ly → NODES ≤ length kinds → NODES ≤ length ways
-    → (r ≤ 4096) × (line (take r (ups lx)) (take r (ups ly)) (take r kinds) (take r ways) r ≡ foundLine G x y exs eys)
-found-by G w x y exs eys num r lx ly kinds ways S a b c d =
-    let h : r ≤ NODES = rw (S .nodes-is) (most G w x y exs eys) in
-    (h, found-is G x y exs eys r (ups lx) (ups ly) kinds ways (S .nodes-is) (S .written) (omega (arith, length-ups lx)) (omega (arith, length-ups ly)) (omega arith) (omega arith))
+-- no more nodes than there may be
+pub count-small : (G : Graph) → (0 < G .count → Ready G) → G .count ≤ NODES
+count-small G w = by (decLt 0 (G .count))
+  where
+    by : Dec (0 < G .count) → G .count ≤ NODES
+    by (yes h) = w h .wf .few
+    by (no h) = omega arith
+
+-- the line of a search, in the first entries of columns: as many as the graph has nodes
+pub found-by : (G : Graph) → (0 < G .count → Ready G) → (x y : ℕ) (exs eys : List ℕ) (num r : ℕ) (lx ly lx′ ly′ : List ℤ) (kinds ways kinds′ ways′ : List ℕ) → Searched G x y exs eys num r (ups lx) (ups ly) kinds ways
+    → length lx ≡ G .count → length ly ≡ G .count → length kinds ≡ G .count → length ways ≡ G .count
+    → (r ≤ 4096) × (line (take r (ups (lx ++ lx′))) (take r (ups (ly ++ ly′))) (take r (kinds ++ kinds′)) (take r (ways ++ ways′)) r ≡ foundLine G x y exs eys)
+found-by G w x y exs eys num r lx ly lx′ ly′ kinds ways kinds′ ways′ S a b c d =
+    let h : r ≤ G .count = rw (S .nodes-is) (few G w x y exs eys) in (
+      omega (arith, count-small G w),
+      rw (← ups-take r (lx ++ lx′), ← ups-take r (ly ++ ly′), take-append-le r lx lx′ (omega arith), take-append-le r ly ly′ (omega arith), take-append-le r kinds kinds′ (omega arith), take-append-le r ways ways′ (omega arith), ups-take r lx, ups-take r ly)
+          (found-is G x y exs eys r (ups lx) (ups ly) kinds ways (S .nodes-is) (S .written) (omega (arith, length-ups lx)) (omega (arith, length-ups ly)) (omega arith) (omega arith)),
+    )
 
 -- a line's parts, as wires ask for them
 pub columns-of : (r : ℕ) (lx ly : List ℤ) (kinds ways : List ℕ) → r ≤ 4096 → NODES ≤ length lx → NODES ≤ length ly → NODES ≤ length kinds → NODES ≤ length ways
@@ -144,5 +149,5 @@ module _ (L L′ : Line) (sx sy : ℕ) (a a′ : Bool) (W : Wires) (l : L ≡ L�
   pub branch-joined : (R R′ : List ℕ) (j : ℕ) → R′ ≡ joinBranch L sx sy a W R j → R′ ≡ joinBranch L′ sx sy a′ W R j
   branch-joined R R′ j t = rw (← l, ← e) t
 
-pub room-kept : {k a b : ℕ} → b ≡ a → k ≤ a → k ≤ b
-room-kept e h = rw e h
+pub space-kept : {lx₁ ly₁ kinds₁ ways₁ lx₂ ly₂ kinds₂ ways₂ : ℕ} → lx₂ ≡ lx₁ → ly₂ ≡ ly₁ → kinds₂ ≡ kinds₁ → ways₂ ≡ ways₁ → Space lx₁ ly₁ kinds₁ ways₁ → Space lx₂ ly₂ kinds₂ ways₂
+space-kept e0 e1 e2 e3 S = rw (e0, e1, e2, e3) S

@@ -154,7 +154,21 @@ fn find_line(
     requires { ⌜ Space (length (now lx)) (length (now ly)) (length (now kinds)) (length (now ways)) ⌝ }
     ensures { λ r. ⌜ (r ≤ 4096) × (line (take r (ups (now (lx .exit)))) (take r (ups (now (ly .exit)))) (take r (now (kinds .exit))) (take r (now (ways .exit))) r ≡ foundLine (graph n (now (xs .entry)) (now (ys .entry)) (now (links .entry)) (now (marks .entry))) x y (ups (now (ex .entry))) (ups (now (ey .entry)))) ⌝ }
 {
-    let a = search::find_path(xs, ys, links, marks, n, x, y, ex, ey, lx, ly, kinds, ways);
+    let a = search::find_path(
+        xs,
+        ys,
+        links,
+        marks,
+        n,
+        x,
+        y,
+        ex,
+        ey,
+        &mut lx[..n],
+        &mut ly[..n],
+        &mut kinds[..n],
+        &mut ways[..n],
+    );
     a.nodes
 }
 
@@ -199,8 +213,94 @@ fn root_line(
     )
 }
 
-// The line from (sx, sy) to one of the net's m ends.
-fn branch_line(
+// The line from (sx, sy) to one of the net's m ends, whose places are written to ex and ey first.
+fn branch_line_in(
+    xs: &[i32],
+    ys: &[i32],
+    links: &[u32],
+    marks: &[u32],
+    n: usize,
+    sx: u32,
+    sy: u32,
+    rows: &[u32],
+    m: usize,
+    lx: &mut [i32],
+    ly: &mut [i32],
+    kinds: &mut [u8],
+    ways: &mut [u8],
+    ex: &mut [i32],
+    ey: &mut [i32],
+) -> usize
+    requires { ⌜ (0 < n → Ready (graph n (now xs) (now ys) (now links) (now marks))) ⌝ }
+    requires { ⌜ (m ≤ 4096) × (16384 ≤ length (now rows)) ⌝ }
+    requires { ⌜ Space (length (now lx)) (length (now ly)) (length (now kinds)) (length (now ways)) ⌝ }
+    requires { ⌜ (m ≤ length (now ex)) × (m ≤ length (now ey)) ⌝ }
+    ensures { λ r. ⌜ (r ≤ 4096) × (line (take r (ups (now (lx .exit)))) (take r (ups (now (ly .exit)))) (take r (now (kinds .exit))) (take r (now (ways .exit))) r ≡ branchLine (graph n (now (xs .entry)) (now (ys .entry)) (now (links .entry)) (now (marks .entry))) sx sy (endsOf (now (rows .entry)) m)) ⌝ }
+{
+    write_ends(rows, 0, m, ex);
+    write_ends(rows, 1, m, ey);
+    find_line(
+        xs,
+        ys,
+        links,
+        marks,
+        n,
+        sx,
+        sy,
+        &ex[..m],
+        &ey[..m],
+        lx,
+        ly,
+        kinds,
+        ways,
+    )
+}
+
+// The same for at most 256 ends: a net seldom has more.
+fn branch_line_few(
+    xs: &[i32],
+    ys: &[i32],
+    links: &[u32],
+    marks: &[u32],
+    n: usize,
+    sx: u32,
+    sy: u32,
+    rows: &[u32],
+    m: usize,
+    lx: &mut [i32],
+    ly: &mut [i32],
+    kinds: &mut [u8],
+    ways: &mut [u8],
+) -> usize
+    requires { ⌜ (0 < n → Ready (graph n (now xs) (now ys) (now links) (now marks))) ⌝ }
+    requires { ⌜ (m ≤ 4096) × (16384 ≤ length (now rows)) ⌝ }
+    requires { ⌜ Space (length (now lx)) (length (now ly)) (length (now kinds)) (length (now ways)) ⌝ }
+    requires { ⌜ m ≤ 256 ⌝ }
+    ensures { λ r. ⌜ (r ≤ 4096) × (line (take r (ups (now (lx .exit)))) (take r (ups (now (ly .exit)))) (take r (now (kinds .exit))) (take r (now (ways .exit))) r ≡ branchLine (graph n (now (xs .entry)) (now (ys .entry)) (now (links .entry)) (now (marks .entry))) sx sy (endsOf (now (rows .entry)) m)) ⌝ }
+{
+    let mut ex: [i32; 256] = [0; 256];
+    let mut ey: [i32; 256] = [0; 256];
+    branch_line_in(
+        xs,
+        ys,
+        links,
+        marks,
+        n,
+        sx,
+        sy,
+        rows,
+        m,
+        lx,
+        ly,
+        kinds,
+        ways,
+        &mut ex,
+        &mut ey,
+    )
+}
+
+// The same for any number of ends.
+fn branch_line_many(
     xs: &[i32],
     ys: &[i32],
     links: &[u32],
@@ -222,9 +322,7 @@ fn branch_line(
 {
     let mut ex: [i32; 4096] = [0; 4096];
     let mut ey: [i32; 4096] = [0; 4096];
-    write_ends(rows, 0, m, &mut ex);
-    write_ends(rows, 1, m, &mut ey);
-    find_line(
+    branch_line_in(
         xs,
         ys,
         links,
@@ -232,8 +330,65 @@ fn branch_line(
         n,
         sx,
         sy,
-        &ex[..m],
-        &ey[..m],
+        rows,
+        m,
+        lx,
+        ly,
+        kinds,
+        ways,
+        &mut ex,
+        &mut ey,
+    )
+}
+
+// The line from (sx, sy) to one of the net's m ends.
+fn branch_line(
+    xs: &[i32],
+    ys: &[i32],
+    links: &[u32],
+    marks: &[u32],
+    n: usize,
+    sx: u32,
+    sy: u32,
+    rows: &[u32],
+    m: usize,
+    lx: &mut [i32],
+    ly: &mut [i32],
+    kinds: &mut [u8],
+    ways: &mut [u8],
+) -> usize
+    requires { ⌜ (0 < n → Ready (graph n (now xs) (now ys) (now links) (now marks))) ⌝ }
+    requires { ⌜ (m ≤ 4096) × (16384 ≤ length (now rows)) ⌝ }
+    requires { ⌜ Space (length (now lx)) (length (now ly)) (length (now kinds)) (length (now ways)) ⌝ }
+    ensures { λ r. ⌜ (r ≤ 4096) × (line (take r (ups (now (lx .exit)))) (take r (ups (now (ly .exit)))) (take r (now (kinds .exit))) (take r (now (ways .exit))) r ≡ branchLine (graph n (now (xs .entry)) (now (ys .entry)) (now (links .entry)) (now (marks .entry))) sx sy (endsOf (now (rows .entry)) m)) ⌝ }
+{
+    if m <= 256 {
+        return branch_line_few(
+            xs,
+            ys,
+            links,
+            marks,
+            n,
+            sx,
+            sy,
+            rows,
+            m,
+            lx,
+            ly,
+            kinds,
+            ways,
+        );
+    }
+    branch_line_many(
+        xs,
+        ys,
+        links,
+        marks,
+        n,
+        sx,
+        sy,
+        rows,
+        m,
         lx,
         ly,
         kinds,
@@ -257,32 +412,19 @@ fn root_wire(
     letters: &mut [u8],
     count: usize,
     rows: &mut [u32],
+    lx: &mut [i32],
+    ly: &mut [i32],
+    kinds: &mut [u8],
+    ways: &mut [u8],
 ) -> Step
     requires { ⌜ (0 < n → Ready (graph n (now xs) (now ys) (now links) (now marks))) ⌝ }
     requires { ⌜ Page (length (now x)) (length (now y)) (length (now letters)) (length (now rows)) ⌝ }
     requires { ⌜ count ≤ 512 ⌝ }
+    requires { ⌜ Space (length (now lx)) (length (now ly)) (length (now kinds)) (length (now ways)) ⌝ }
     ensures { λ r. ⌜ tried (r .number) (wires (vertices (ups (now (x .exit))) (ups (now (y .exit))) (now (letters .exit)) (r .n)) (endsOf (now (rows .exit)) (r .m))) ≡ routeWire (foundLine (graph n (now (xs .entry)) (now (ys .entry)) (now (links .entry)) (now (marks .entry))) sx sy (tx ∷ []) (ty ∷ [])) sx sy tx ty (alongFrom (graph n (now (xs .entry)) (now (ys .entry)) (now (links .entry)) (now (marks .entry))) sx sy) true Junction.None (wires (vertices (ups (now (x .entry))) (ups (now (y .entry))) (now (letters .entry)) count) (endsOf (now (rows .entry)) 0)) ⌝ }
 {
     let ahead = along(xs, ys, links, marks, n, sx, sy);
-    let mut lx: [i32; 4096] = [0; 4096];
-    let mut ly: [i32; 4096] = [0; 4096];
-    let mut kinds: [u8; 4096] = [0; 4096];
-    let mut ways: [u8; 4096] = [0; 4096];
-    let c = root_line(
-        xs,
-        ys,
-        links,
-        marks,
-        n,
-        sx,
-        sy,
-        tx,
-        ty,
-        &mut lx,
-        &mut ly,
-        &mut kinds,
-        &mut ways,
-    );
+    let c = root_line(xs, ys, links, marks, n, sx, sy, tx, ty, lx, ly, kinds, ways);
     routing::route_wire(
         &lx[..c],
         &ly[..c],
@@ -322,18 +464,19 @@ fn branch(
     m: usize,
     joins: &mut [u32],
     j: usize,
+    lx: &mut [i32],
+    ly: &mut [i32],
+    kinds: &mut [u8],
+    ways: &mut [u8],
 ) -> Step
     requires { ⌜ (0 < n → Ready (graph n (now xs) (now ys) (now links) (now marks))) ⌝ }
     requires { ⌜ Page (length (now x)) (length (now y)) (length (now letters)) (length (now rows)) ⌝ }
     requires { ⌜ (count ≤ 512) × (0 < m) × (m ≤ 4096) × (j < 256) × (768 ≤ length (now joins)) ⌝ }
+    requires { ⌜ Space (length (now lx)) (length (now ly)) (length (now kinds)) (length (now ways)) ⌝ }
     ensures { λ r. ⌜ tried (r .number) (wires (vertices (ups (now (x .exit))) (ups (now (y .exit))) (now (letters .exit)) (r .n)) (endsOf (now (rows .exit)) (r .m))) ≡ routeBranch (branchLine (graph n (now (xs .entry)) (now (ys .entry)) (now (links .entry)) (now (marks .entry))) sx sy (endsOf (now (rows .entry)) m)) sx sy (alongFrom (graph n (now (xs .entry)) (now (ys .entry)) (now (links .entry)) (now (marks .entry))) sx sy) (wires (vertices (ups (now (x .entry))) (ups (now (y .entry))) (now (letters .entry)) count) (endsOf (now (rows .entry)) m)) ⌝ }
     ensures { λ _. ⌜ now (joins .exit) ≡ joinBranch (branchLine (graph n (now (xs .entry)) (now (ys .entry)) (now (links .entry)) (now (marks .entry))) sx sy (endsOf (now (rows .entry)) m)) sx sy (alongFrom (graph n (now (xs .entry)) (now (ys .entry)) (now (links .entry)) (now (marks .entry))) sx sy) (wires (vertices (ups (now (x .entry))) (ups (now (y .entry))) (now (letters .entry)) count) (endsOf (now (rows .entry)) m)) (now (joins .entry)) j ⌝ }
 {
     let ahead = along(xs, ys, links, marks, n, sx, sy);
-    let mut lx: [i32; 4096] = [0; 4096];
-    let mut ly: [i32; 4096] = [0; 4096];
-    let mut kinds: [u8; 4096] = [0; 4096];
-    let mut ways: [u8; 4096] = [0; 4096];
     let c = branch_line(
         xs,
         ys,
@@ -344,10 +487,10 @@ fn branch(
         sy,
         rows,
         m,
-        &mut lx,
-        &mut ly,
-        &mut kinds,
-        &mut ways,
+        lx,
+        ly,
+        kinds,
+        ways,
     );
     routing::route_branch(
         &lx[..c],
@@ -415,10 +558,15 @@ fn branch_from(
     m: usize,
     joins: &mut [u32],
     j: usize,
+    lx: &mut [i32],
+    ly: &mut [i32],
+    kinds: &mut [u8],
+    ways: &mut [u8],
 ) -> Made
     requires { ⌜ (0 < n → Ready (graph n (now xs) (now ys) (now links) (now marks))) ⌝ }
     requires { ⌜ Page (length (now x)) (length (now y)) (length (now letters)) (length (now rows)) ⌝ }
     requires { ⌜ (count ≤ 512) × (0 < m) × (m ≤ 4096) × (j < 256) × (768 ≤ length (now joins)) ⌝ }
+    requires { ⌜ Space (length (now lx)) (length (now ly)) (length (now kinds)) (length (now ways)) ⌝ }
     ensures { λ r. ⌜ branched (r .number) (wires (vertices (ups (now (x .exit))) (ups (now (y .exit))) (now (letters .exit)) (r .n)) (endsOf (now (rows .exit)) (r .m))) (now (joins .exit)) (r .j) ≡ branchFrom (graph n (now (xs .entry)) (now (ys .entry)) (now (links .entry)) (now (marks .entry))) sx sy (branched 0 (wires (vertices (ups (now (x .entry))) (ups (now (y .entry))) (now (letters .entry)) count) (endsOf (now (rows .entry)) m)) (now (joins .entry)) j) ⌝ }
 {
     let t = branch(
@@ -437,6 +585,10 @@ fn branch_from(
         m,
         joins,
         j,
+        lx,
+        ly,
+        kinds,
+        ways,
     );
     with_junction(t, j)
 }
@@ -462,10 +614,15 @@ pub fn branch_at(
     m: usize,
     joins: &mut [u32],
     j: usize,
+    lx: &mut [i32],
+    ly: &mut [i32],
+    kinds: &mut [u8],
+    ways: &mut [u8],
 ) -> Made
     requires { ⌜ (0 < n → Ready (graph n (now xs) (now ys) (now links) (now marks))) ⌝ }
     requires { ⌜ Page (length (now x)) (length (now y)) (length (now letters)) (length (now rows)) ⌝ }
     requires { ⌜ (i < length (now px)) × (length (now px) ≤ 256) × (length (now py) ≡ length (now px)) × (number ≡ 0 → Bounds count m j) × (768 ≤ length (now joins)) ⌝ }
+    requires { ⌜ Space (length (now lx)) (length (now ly)) (length (now kinds)) (length (now ways)) ⌝ }
     ensures { λ r. ⌜ branched (r .number) (wires (vertices (ups (now (x .exit))) (ups (now (y .exit))) (now (letters .exit)) (r .n)) (endsOf (now (rows .exit)) (r .m))) (now (joins .exit)) (r .j) ≡ branchAt (graph n (now (xs .entry)) (now (ys .entry)) (now (links .entry)) (now (marks .entry))) (now (px .entry)) (now (py .entry)) a b i (branched number (wires (vertices (ups (now (x .entry))) (ups (now (y .entry))) (now (letters .entry)) count) (endsOf (now (rows .entry)) m)) (now (joins .entry)) j) ⌝ }
 {
     if number != 0 {
@@ -500,6 +657,10 @@ pub fn branch_at(
         m,
         joins,
         j,
+        lx,
+        ly,
+        kinds,
+        ways,
     )
 }
 
@@ -519,10 +680,15 @@ pub fn root_at(
     letters: &mut [u8],
     count: usize,
     rows: &mut [u32],
+    lx: &mut [i32],
+    ly: &mut [i32],
+    kinds: &mut [u8],
+    ways: &mut [u8],
 ) -> Step
     requires { ⌜ (0 < n → Ready (graph n (now xs) (now ys) (now links) (now marks))) ⌝ }
     requires { ⌜ Page (length (now x)) (length (now y)) (length (now letters)) (length (now rows)) ⌝ }
     requires { ⌜ (a < length (now px)) × (b < length (now px)) × (length (now px) ≤ 256) × (length (now py) ≡ length (now px)) × (count ≤ 512) ⌝ }
+    requires { ⌜ Space (length (now lx)) (length (now ly)) (length (now kinds)) (length (now ways)) ⌝ }
     ensures { λ r. ⌜ tried (r .number) (wires (vertices (ups (now (x .exit))) (ups (now (y .exit))) (now (letters .exit)) (r .n)) (endsOf (now (rows .exit)) (r .m))) ≡ rootWire (graph n (now (xs .entry)) (now (ys .entry)) (now (links .entry)) (now (marks .entry))) (now (px .entry)) (now (py .entry)) a b (wires (vertices (ups (now (x .entry))) (ups (now (y .entry))) (now (letters .entry)) count) (endsOf (now (rows .entry)) 0)) ⌝ }
 {
     root_wire(
@@ -540,5 +706,9 @@ pub fn root_at(
         letters,
         count,
         rows,
+        lx,
+        ly,
+        kinds,
+        ways,
     )
 }
