@@ -272,6 +272,9 @@ pub begun : (n a : ℕ) (g p q q′ : List ℕ) → g ≡ replicate n UNSET → 
 unfolding begin
 begun n a g p q q′ eg ep eq e = rw (e, eg, ep, eq)
 
+pub blank-long : (n v : ℕ) (l : List ℕ) → l ≡ replicate n v → length l ≡ n
+blank-long n v l e = rw e (length-replicate n v)
+
 pub unknown : (n : ℕ) (xs ys es l : List ℕ) → l ≡ replicate n UNSET → Estimated n xs ys es l
 unknown n xs ys es l e = record { long = rw e (length-replicate n UNSET); each = λ v vn. inl (rw e (getD-replicate n v UNSET 0 vn)) }
 

@@ -347,31 +347,17 @@ fn expand(
     }
 }
 
-// Sets every entry of s to v.
-fn fill(s: &mut [u32], v: u32)
-    ensures { λ _. ⌜ now (s .exit) ≡ replicate (length (now (s .entry))) v ⌝ }
-{
-    let mut i: usize = 0;
-    while i < s.len() {
-        s[i] = v;
-        i += 1;
-    }
-}
-
-// Before the first turn: only the start has a score and a queue entry, both 0, and no estimate is known.
+// The first turn of a search whose lists are blank: the start has a score and a queue entry, both 0.
 fn begin(g: &mut [u64], pred: &mut [u32], queue: &mut [u64], tree: &mut [u64], start: usize)
-    requires { ⌜ (start < length (now queue)) × (length (now g) ≡ length (now queue)) × (length (now pred) ≡ length (now queue)) × (length (now queue) ≤ NODES) × (2 * length (now queue) ≤ length (now tree)) ⌝ }
+    requires { ⌜ (start < length (now queue)) × (now g ≡ replicate (length (now queue)) UNSET) × (now pred ≡ replicate (length (now queue)) none) × (now queue ≡ replicate (length (now queue)) UNSET) × Indexed (now queue) (now tree) ⌝ }
     ensures { λ _. ⌜ st (now (g .exit)) (now (pred .exit)) (now (queue .exit)) ≡ beginS (length (now (queue .entry))) start ⌝ }
     ensures { λ _. ⌜ Indexed (now (queue .exit)) (now (tree .exit)) ⌝ }
 {
-    queue::fill(g, UNSET);
-    fill(pred, NONE);
-    queue::clear(queue, tree);
     g[start] = 0;
     queue::put(queue, tree, start, 0);
 }
 
-// The search from the node `start`: the first end that leaves the queue, or nothing.
+// The search from the node `start`: the first end that leaves the queue, or nothing. Its lists are blank: nothing is scored or estimated, and the queue is empty.
 pub fn find_path_impl(
     xs: &[i32],
     ys: &[i32],
@@ -388,11 +374,10 @@ pub fn find_path_impl(
     start: usize,
 ) -> Found
     requires { ⌜ Ready (graph n (now xs) (now ys) (now links) (now marks)) ⌝ }
-    requires { ⌜ (length (now g) ≡ n) × (length (now pred) ≡ n) × (length (now queue) ≡ n) × (length (now estimates) ≡ n) × (2 * n ≤ length (now tree)) × (start < n) × Below n (now ends) × Marked n (now ends) (now marked) ⌝ }
+    requires { ⌜ (now g ≡ replicate n UNSET) × (now pred ≡ replicate n none) × (now queue ≡ replicate n UNSET) × (now estimates ≡ replicate n UNSET) × Indexed (now queue) (now tree) × (start < n) × Below n (now ends) × Marked n (now ends) (now marked) ⌝ }
     ensures { λ r. ⌜ (r ≡ found-of (search (graph n (now (xs .entry)) (now (ys .entry)) (now (links .entry)) (now (marks .entry))) (now (ends .entry)) start .at)) × (st (now (g .exit)) (now (pred .exit)) (now (queue .exit)) ≡ search (graph n (now (xs .entry)) (now (ys .entry)) (now (links .entry)) (now (marks .entry))) (now (ends .entry)) start .end) ⌝ }
 {
     begin(g, pred, queue, tree, start);
-    queue::fill(estimates, UNSET);
     let mut found = Found::Nothing;
     'outer: loop {
         let top = queue::pop_least(queue, tree);

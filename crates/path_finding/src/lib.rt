@@ -56,17 +56,6 @@ fn has_link(links: &[u32], n: usize, v: usize) -> bool
     astar::onward(links, n, v, 3) != NONE
 }
 
-// Clears all marks.
-fn unmark(s: &mut [u8])
-    ensures { λ _. ⌜ now (s .exit) ≡ replicate (length (now (s .entry))) 0 ⌝ }
-{
-    let mut i: usize = 0;
-    while i < s.len() {
-        s[i] = 0;
-        i += 1;
-    }
-}
-
 // The line to `end`, from the start: it fills `path` from the back, and is the part from the result on.
 fn build_path(pred: &[u32], end: usize, path: &mut [u32]) -> usize
     requires { ⌜ (length (now path) ≡ length (now pred)) × (length (now pred) ≤ NODES) × Traced (length (now pred)) (now pred) end ⌝ }
@@ -385,7 +374,6 @@ pub fn find_line(
     requires { ⌜ Lent n (now marked) (now g) (now pred) (now queue) (now tree) (now estimates) (now path) ⌝ }
     ensures { λ r. ⌜ (r ≤ n) × (drop r (now (path .exit)) ≡ lineS (graph n (now (xs .entry)) (now (ys .entry)) (now (links .entry)) (now (marks .entry))) (now (ends .entry)) start) ⌝ }
 {
-    unmark(marked);
     let m = gather(links, n, ends, marked, kept);
     if m == 0 {
         return n;

@@ -2,7 +2,7 @@
 // `tree` is a tournament of the entries' keys, so that neither looks at all entries.
 ghost use mathlib.Core.Path.{_≡_};
 ghost use Prim.Native.Nat.{ℕ, _+_, _*_, _≤_, _<_, min};
-ghost use lib.ListN.{length, getD, set, replicate};
+ghost use lib.ListN.{length, getD, set};
 ghost use Rattle.queue.specs.Queue.{NODES, UNSET, top as topS, popped, after-pop};
 ghost use Rattle.queue.specs.Index.{LeastIn, Tree, Indexed, key as keyS};
 
@@ -16,17 +16,6 @@ const TALL: u64 = 2251799813685248;
 pub enum Popped {
     At(usize),
     Empty,
-}
-
-// Sets every entry of s to v.
-pub fn fill(s: &mut [u64], v: u64)
-    ensures { λ _. ⌜ now (s .exit) ≡ replicate (length (now (s .entry))) v ⌝ }
-{
-    let mut i: usize = 0;
-    while i < s.len() {
-        s[i] = v;
-        i += 1;
-    }
 }
 
 // The first least entry from lo to before hi.
@@ -113,13 +102,4 @@ pub fn pop_least(queue: &mut [u64], tree: &mut [u64]) -> Popped
     } else {
         Popped::Empty
     }
-}
-
-// Empties the queue.
-pub fn clear(queue: &mut [u64], tree: &mut [u64])
-    requires { ⌜ (0 < length (now queue)) × (length (now queue) ≤ NODES) × (2 * length (now queue) ≤ length (now tree)) ⌝ }
-    ensures { λ _. ⌜ (now (queue .exit) ≡ replicate (length (now (queue .entry))) UNSET) × Indexed (now (queue .exit)) (now (tree .exit)) ⌝ }
-{
-    fill(queue, UNSET);
-    fill(&mut tree[..2 * queue.len()], UNSET);
 }

@@ -1,12 +1,12 @@
 -- The line between places: its nodes are nodes of the graph, and it is not longer than the list that holds it; an empty graph gives 9 and no line.
 use Prim.Native.Nat.{ℕ, zero, suc, _-_, _*_, _≤_, _<_}
 use mathlib.Core.Path.{_≡_, refl, sym, ap, _∙_, subst}
-use mathlib.Core.List.{List, [], _++_}
+use mathlib.Core.List.{List, [], _∷_, _++_}
 use mathlib.Core.Bool.{Bool, true, false, cond}
 use native.Mathlib.Omega.{arith}
 use native.Mathlib.Decide.{decLt}
 use native.Mathlib.Nat.{not-suc-le-zero}
-use lib.ListN.{length, take, drop, length-append, length-take, length-drop}
+use lib.ListN.{length, take, drop, replicate, length-append, length-take, length-drop}
 use lib.Dec.{ltb}
 use borrow.Author.Tests.{le-ltb, ltb-true}
 use Rattle.nodes.specs.Graph.{Graph, NODES}
@@ -67,3 +67,9 @@ few-or-none G w = go (decLt 0 (G .count))
     go : Dec (0 < G .count) → G .count ≤ NODES
     go (yes h) = w h .wf .few
     go (no h) = omega arith
+
+-- the first n of a blank list
+pub blank : (n k v : ℕ) → n ≤ k → take n (replicate k v) ≡ replicate n v
+blank zero k v h = refl
+blank (suc n) zero v h = absurd (omega arith)
+blank (suc n) (suc k) v h = ap (λ (l : List ℕ). v ∷ l) (blank n k v (omega arith))

@@ -2,8 +2,9 @@
 use Prim.Native.Nat.{ℕ, _*_, _≤_}
 use mathlib.Core.Path.{_≡_}
 use mathlib.Core.List.{List}
-use lib.ListN.{length}
-use Rattle.nodes.specs.Graph.{Graph}
+use lib.ListN.{length, take, replicate}
+use Rattle.nodes.specs.Graph.{Graph, none}
+use Rattle.queue.specs.Queue.{UNSET}
 use Rattle.path_finding.specs.Line.{Written}
 use Rattle.path_finding.specs.Places.{number, line-between}
 
@@ -22,7 +23,7 @@ pub record Ended {A : Type 0} (ex ey : List A) : Type 0 where
   pub even : length ey ≡ length ex
   pub most : length ex ≤ ENDS
 
--- the scratch of a search on n nodes to m ends: its sizes. What it holds does not matter
+-- the scratch of a search on n nodes to m ends: it has room, and is blank as far as it is used; what `ends`, `kept` and `path` hold does not matter
 pub record Scratch (n m : ℕ) (ends marked kept g pred queue tree estimates path : List ℕ) : Type 0 where
   pub ends-room : m ≤ length ends
   pub marked-room : n ≤ length marked
@@ -33,3 +34,9 @@ pub record Scratch (n m : ℕ) (ends marked kept g pred queue tree estimates pat
   pub tree-room : 2 * n ≤ length tree
   pub estimates-room : n ≤ length estimates
   pub path-room : n ≤ length path
+  pub marked-blank : take n marked ≡ replicate n 0
+  pub g-blank : take n g ≡ replicate n UNSET
+  pub pred-blank : take n pred ≡ replicate n none
+  pub queue-blank : take n queue ≡ replicate n UNSET
+  pub tree-blank : take (2 * n) tree ≡ replicate (2 * n) UNSET
+  pub estimates-blank : take n estimates ≡ replicate n UNSET

@@ -65,7 +65,7 @@ fn find_path_multi(
     a
 }
 
-// A search with the scratch that it is lent, of any length that is enough; an empty graph is answered at once.
+// A search with the blank scratch that it is lent, of any length that is enough; an empty graph is answered at once.
 fn find_path_in(
     xs: &[i32],
     ys: &[i32],
@@ -128,8 +128,8 @@ fn find_path_in(
     )
 }
 
-// A search on a graph of at most 512 nodes, to at most 512 ends: most pages have no larger one, and its scratch is an eighth.
-fn find_path_small(
+// A search on a graph of at most 256 nodes, to at most 256 ends. The time to clear its scratch counts, so there are four sizes of it.
+fn find_path_256(
     xs: &[i32],
     ys: &[i32],
     links: &[u32],
@@ -146,18 +146,130 @@ fn find_path_small(
 ) -> Answer
     requires { ⌜ (0 < n → Ready (graph n (now xs) (now ys) (now links) (now marks))) ⌝ }
     requires { ⌜ Ended (now ex) (now ey) ⌝ }
-    requires { ⌜ (n ≤ 512) × (length (now ex) ≤ 512) ⌝ }
+    requires { ⌜ (n ≤ 256) × (length (now ex) ≤ 256) ⌝ }
     ensures { λ r. ⌜ Searched (graph n (now (xs .entry)) (now (ys .entry)) (now (links .entry)) (now (marks .entry))) x y (ups (now (ex .entry))) (ups (now (ey .entry))) (r .number) (r .nodes) (ups (now (lx .exit))) (ups (now (ly .exit))) (now (kinds .exit)) (now (dirs .exit)) ⌝ }
 {
-    let mut ends: [u32; 512] = [0; 512];
-    let mut marked: [u8; 512] = [0; 512];
-    let mut kept: [u32; 512] = [0; 512];
-    let mut g: [u64; 512] = [0; 512];
-    let mut pred: [u32; 512] = [0; 512];
-    let mut queue: [u64; 512] = [0; 512];
-    let mut tree: [u64; 1024] = [0; 1024];
-    let mut estimates: [u64; 512] = [0; 512];
-    let mut path: [u32; 512] = [0; 512];
+    let mut ends: [u32; 256] = [0; 256];
+    let mut marked: [u8; 256] = [0; 256];
+    let mut kept: [u32; 256] = [0; 256];
+    let mut g: [u64; 256] = [queue::UNSET; 256];
+    let mut pred: [u32; 256] = [astar::NONE; 256];
+    let mut queue: [u64; 256] = [queue::UNSET; 256];
+    let mut tree: [u64; 512] = [queue::UNSET; 512];
+    let mut estimates: [u64; 256] = [queue::UNSET; 256];
+    let mut path: [u32; 256] = [0; 256];
+    find_path_in(
+        xs,
+        ys,
+        links,
+        marks,
+        n,
+        x,
+        y,
+        ex,
+        ey,
+        lx,
+        ly,
+        kinds,
+        dirs,
+        &mut ends,
+        &mut marked,
+        &mut kept,
+        &mut g,
+        &mut pred,
+        &mut queue,
+        &mut tree,
+        &mut estimates,
+        &mut path,
+    )
+}
+
+// The same for 640.
+fn find_path_640(
+    xs: &[i32],
+    ys: &[i32],
+    links: &[u32],
+    marks: &[u32],
+    n: usize,
+    x: u32,
+    y: u32,
+    ex: &[i32],
+    ey: &[i32],
+    lx: &mut [i32],
+    ly: &mut [i32],
+    kinds: &mut [u8],
+    dirs: &mut [u8],
+) -> Answer
+    requires { ⌜ (0 < n → Ready (graph n (now xs) (now ys) (now links) (now marks))) ⌝ }
+    requires { ⌜ Ended (now ex) (now ey) ⌝ }
+    requires { ⌜ (n ≤ 640) × (length (now ex) ≤ 640) ⌝ }
+    ensures { λ r. ⌜ Searched (graph n (now (xs .entry)) (now (ys .entry)) (now (links .entry)) (now (marks .entry))) x y (ups (now (ex .entry))) (ups (now (ey .entry))) (r .number) (r .nodes) (ups (now (lx .exit))) (ups (now (ly .exit))) (now (kinds .exit)) (now (dirs .exit)) ⌝ }
+{
+    let mut ends: [u32; 640] = [0; 640];
+    let mut marked: [u8; 640] = [0; 640];
+    let mut kept: [u32; 640] = [0; 640];
+    let mut g: [u64; 640] = [queue::UNSET; 640];
+    let mut pred: [u32; 640] = [astar::NONE; 640];
+    let mut queue: [u64; 640] = [queue::UNSET; 640];
+    let mut tree: [u64; 1280] = [queue::UNSET; 1280];
+    let mut estimates: [u64; 640] = [queue::UNSET; 640];
+    let mut path: [u32; 640] = [0; 640];
+    find_path_in(
+        xs,
+        ys,
+        links,
+        marks,
+        n,
+        x,
+        y,
+        ex,
+        ey,
+        lx,
+        ly,
+        kinds,
+        dirs,
+        &mut ends,
+        &mut marked,
+        &mut kept,
+        &mut g,
+        &mut pred,
+        &mut queue,
+        &mut tree,
+        &mut estimates,
+        &mut path,
+    )
+}
+
+// The same for 1,280.
+fn find_path_1280(
+    xs: &[i32],
+    ys: &[i32],
+    links: &[u32],
+    marks: &[u32],
+    n: usize,
+    x: u32,
+    y: u32,
+    ex: &[i32],
+    ey: &[i32],
+    lx: &mut [i32],
+    ly: &mut [i32],
+    kinds: &mut [u8],
+    dirs: &mut [u8],
+) -> Answer
+    requires { ⌜ (0 < n → Ready (graph n (now xs) (now ys) (now links) (now marks))) ⌝ }
+    requires { ⌜ Ended (now ex) (now ey) ⌝ }
+    requires { ⌜ (n ≤ 1280) × (length (now ex) ≤ 1280) ⌝ }
+    ensures { λ r. ⌜ Searched (graph n (now (xs .entry)) (now (ys .entry)) (now (links .entry)) (now (marks .entry))) x y (ups (now (ex .entry))) (ups (now (ey .entry))) (r .number) (r .nodes) (ups (now (lx .exit))) (ups (now (ly .exit))) (now (kinds .exit)) (now (dirs .exit)) ⌝ }
+{
+    let mut ends: [u32; 1280] = [0; 1280];
+    let mut marked: [u8; 1280] = [0; 1280];
+    let mut kept: [u32; 1280] = [0; 1280];
+    let mut g: [u64; 1280] = [queue::UNSET; 1280];
+    let mut pred: [u32; 1280] = [astar::NONE; 1280];
+    let mut queue: [u64; 1280] = [queue::UNSET; 1280];
+    let mut tree: [u64; 2560] = [queue::UNSET; 2560];
+    let mut estimates: [u64; 1280] = [queue::UNSET; 1280];
+    let mut path: [u32; 1280] = [0; 1280];
     find_path_in(
         xs,
         ys,
@@ -185,7 +297,7 @@ fn find_path_small(
 }
 
 // A search on any graph, with scratch for 4,096 nodes and ends.
-fn find_path_large(
+fn find_path_4096(
     xs: &[i32],
     ys: &[i32],
     links: &[u32],
@@ -207,11 +319,11 @@ fn find_path_large(
     let mut ends: [u32; 4096] = [0; 4096];
     let mut marked: [u8; 4096] = [0; 4096];
     let mut kept: [u32; 4096] = [0; 4096];
-    let mut g: [u64; 4096] = [0; 4096];
-    let mut pred: [u32; 4096] = [0; 4096];
-    let mut queue: [u64; 4096] = [0; 4096];
-    let mut tree: [u64; 8192] = [0; 8192];
-    let mut estimates: [u64; 4096] = [0; 4096];
+    let mut g: [u64; 4096] = [queue::UNSET; 4096];
+    let mut pred: [u32; 4096] = [astar::NONE; 4096];
+    let mut queue: [u64; 4096] = [queue::UNSET; 4096];
+    let mut tree: [u64; 8192] = [queue::UNSET; 8192];
+    let mut estimates: [u64; 4096] = [queue::UNSET; 4096];
     let mut path: [u32; 4096] = [0; 4096];
     find_path_in(
         xs,
@@ -259,8 +371,14 @@ pub fn find_path(
     requires { ⌜ Ended (now ex) (now ey) ⌝ }
     ensures { λ r. ⌜ Searched (graph n (now (xs .entry)) (now (ys .entry)) (now (links .entry)) (now (marks .entry))) x y (ups (now (ex .entry))) (ups (now (ey .entry))) (r .number) (r .nodes) (ups (now (lx .exit))) (ups (now (ly .exit))) (now (kinds .exit)) (now (dirs .exit)) ⌝ }
 {
-    if (n <= 512) & (ex.len() <= 512) {
-        return find_path_small(xs, ys, links, marks, n, x, y, ex, ey, lx, ly, kinds, dirs);
+    if (n <= 256) & (ex.len() <= 256) {
+        return find_path_256(xs, ys, links, marks, n, x, y, ex, ey, lx, ly, kinds, dirs);
     }
-    find_path_large(xs, ys, links, marks, n, x, y, ex, ey, lx, ly, kinds, dirs)
+    if (n <= 640) & (ex.len() <= 640) {
+        return find_path_640(xs, ys, links, marks, n, x, y, ex, ey, lx, ly, kinds, dirs);
+    }
+    if (n <= 1280) & (ex.len() <= 1280) {
+        return find_path_1280(xs, ys, links, marks, n, x, y, ex, ey, lx, ly, kinds, dirs);
+    }
+    find_path_4096(xs, ys, links, marks, n, x, y, ex, ey, lx, ly, kinds, dirs)
 }

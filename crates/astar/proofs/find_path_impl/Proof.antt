@@ -10,7 +10,7 @@ use Rattle.nodes.specs.Lent.{graph}
 use Rattle.astar.specs.Search.{st}
 use Rattle.astar.specs.Scratch.{Estimated}
 use Rattle.astar.proofs.Roads.{roads}
-use Rattle.astar.proofs.Laws.{few, unknown}
+use Rattle.astar.proofs.Laws.{blank-long, unknown}
 use Rattle.astar.proofs.State.{mu}
 use Rattle.astar.proofs.Turn.{Going, going-first, going-len, going-empty, going-in, going-shape, going-low, going-pred, going-hit, going-less, going-on, marked-yes, marked-no}
 use Rattle.astar.proofs.find_path_impl.Statement.{statement}
@@ -25,15 +25,14 @@ abbrev μ-outer : tie.MeasureT-outer
 begin-requires : tie.Need-begin-requires Inv-outer μ-outer
 begin-requires c κs =
     let l = c .before .before .before .before .before .before .before .before .before .before .before .before .before .pre .1 in
-    (rw (l .2) (l .5), l .0 ∙ sym (l .2), l .1 ∙ sym (l .2), rw (l .2) (few _ _ _ _ _ (c .before .before .before .before .before .before .before .before .before .before .before .before .before .pre .0)), rw (l .2) (l .4))
-
-fill-requires : tie.Need-fill-requires Inv-outer μ-outer
-fill-requires c κs = search needs
+    let q = blank-long _ _ _ (l .2) in
+    (rw q (l .5), rw q (l .0), rw q (l .1), rw q (l .2), l .4)
 
 outer-holds : tie.Need-outer-holds Inv-outer μ-outer
 outer-holds c =
-    let l = c .before .before .before .before .before .before .before .before .before .before .before .before .before .before .before .before .before .before .before .before .before .before .before .before .before .before .pre .1 in
-    (going-first _ _ (roads _ (c .before .before .before .before .before .before .before .before .before .before .before .before .before .before .before .before .before .before .before .before .before .before .before .before .before .before .pre .0)) _ _ (l .5) _ (rw (l .2) at (c .before .before .before .before .before .before .before .before .before .before .before .before .begin .ensures .0)), c .before .before .before .before .before .before .before .before .before .before .before .before .begin .ensures .1, unknown _ _ _ _ _ (rw (l .3) at (c .before .before .fill .ensures)), search needs)
+    let l = c .before .before .before .before .before .before .before .before .before .before .before .before .before .before .before .before .before .before .before .before .before .before .pre .1 in
+    let q : length (c .before .before .before .before .before .before .before .before .before .before .before .before .before .before .before .before .before .before .before .before .before .before .args .queue .now) ≡ c .before .before .before .before .before .before .before .before .before .before .before .before .before .before .before .before .before .before .before .before .before .before .args .n = blank-long _ _ _ (l .2) in
+    (going-first _ _ (roads _ (c .before .before .before .before .before .before .before .before .before .before .before .before .before .before .before .before .before .before .before .before .before .before .pre .0)) _ _ (l .5) _ (rw q at (c .before .before .before .before .before .before .before .before .begin .ensures .0)), c .before .before .before .before .before .before .before .before .begin .ensures .1, unknown _ _ _ _ _ (l .3), search needs)
 
 pop-least-requires : tie.Need-pop-least-requires Inv-outer μ-outer
 pop-least-requires c κs = c .before .before .outer .inv .1
@@ -45,55 +44,55 @@ enum-known-top : tie.Need-enum-known-top Inv-outer μ-outer
 enum-known-top c = search needs
 
 shared-slice-read-if1 : tie.Need-shared-slice-read-if1 Inv-outer μ-outer
-shared-slice-read-if1 c = rw (c .before .before .before .before .before .before .before .before .before .before .before .before .before .before .before .before .before .before .before .before .before .before .before .before .before .before .before .before .before .before .before .before .before .before .before .before .before .before .pre .1 .7 .long) (going-in _ _ (roads _ (c .before .before .before .before .before .before .before .before .before .before .before .before .before .before .before .before .before .before .before .before .before .before .before .before .before .before .before .before .before .before .before .before .before .before .before .before .before .before .pre .0)) _ _ _ _ (c .before .before .before .before .before .before .before .before .before .before .before .outer .inv .0) _ _ (c .before .before .before .before .before .before .before .before .pop-least .ensures .0) (c .before .before .before .before .before .before .before .before .pop-least .ensures .1 .0) _ (c .before .before .top .given .1))
+shared-slice-read-if1 c = rw (c .before .before .before .before .before .before .before .before .before .before .before .before .before .before .before .before .before .before .before .before .before .before .before .before .before .before .before .before .before .before .before .before .before .before .pre .1 .7 .long) (going-in _ _ (roads _ (c .before .before .before .before .before .before .before .before .before .before .before .before .before .before .before .before .before .before .before .before .before .before .before .before .before .before .before .before .before .before .before .before .before .before .pre .0)) _ _ _ _ (c .before .before .before .before .before .before .before .before .before .before .before .outer .inv .0) _ _ (c .before .before .before .before .before .before .before .before .pop-least .ensures .0) (c .before .before .before .before .before .before .before .before .pop-least .ensures .1 .0) _ (c .before .before .top .given .1))
 
 expand-requires : tie.Need-expand-requires Inv-outer μ-outer
 expand-requires c κs =
-    let S = going-shape _ _ (roads _ (c .before .before .before .before .before .before .before .before .before .before .before .before .before .before .before .before .before .before .before .before .before .before .before .before .before .before .before .before .before .before .before .before .before .before .before .before .before .before .before .before .before .before .before .before .pre .0)) _ _ _ _ (c .before .before .before .before .before .before .before .before .before .before .before .before .before .before .before .before .before .outer .inv .0) _ _ (c .before .before .before .before .before .before .before .before .before .before .before .before .before .before .pop-least .ensures .0) (c .before .before .before .before .before .before .before .before .before .before .before .before .before .before .pop-least .ensures .1 .0) _ (c .before .before .before .before .before .before .before .before .top .given .1) in
-    let l = c .before .before .before .before .before .before .before .before .before .before .before .before .before .before .before .before .before .before .before .before .before .before .before .before .before .before .before .before .before .before .before .before .before .before .before .before .before .before .before .before .before .before .before .before .pre .1 in
-    (c .before .before .before .before .before .before .before .before .before .before .before .before .before .before .before .before .before .before .before .before .before .before .before .before .before .before .before .before .before .before .before .before .before .before .before .before .before .before .before .before .before .before .before .before .pre .0, (((going-in _ _ (roads _ (c .before .before .before .before .before .before .before .before .before .before .before .before .before .before .before .before .before .before .before .before .before .before .before .before .before .before .before .before .before .before .before .before .before .before .before .before .before .before .before .before .before .before .before .before .pre .0)) _ _ _ _ (c .before .before .before .before .before .before .before .before .before .before .before .before .before .before .before .before .before .outer .inv .0) _ _ (c .before .before .before .before .before .before .before .before .before .before .before .before .before .before .pop-least .ensures .0) (c .before .before .before .before .before .before .before .before .before .before .before .before .before .before .pop-least .ensures .1 .0) _ (c .before .before .before .before .before .before .before .before .top .given .1)), going-low _ _ (roads _ (c .before .before .before .before .before .before .before .before .before .before .before .before .before .before .before .before .before .before .before .before .before .before .before .before .before .before .before .before .before .before .before .before .before .before .before .before .before .before .before .before .before .before .before .before .pre .0)) _ _ _ _ (c .before .before .before .before .before .before .before .before .before .before .before .before .before .before .before .before .before .outer .inv .0) _ _ (c .before .before .before .before .before .before .before .before .before .before .before .before .before .before .pop-least .ensures .0) (c .before .before .before .before .before .before .before .before .before .before .before .before .before .before .pop-least .ensures .1 .0) _ (c .before .before .before .before .before .before .before .before .top .given .1), going-pred _ _ (roads _ (c .before .before .before .before .before .before .before .before .before .before .before .before .before .before .before .before .before .before .before .before .before .before .before .before .before .before .before .before .before .before .before .before .before .before .before .before .before .before .before .before .before .before .before .before .pre .0)) _ _ _ _ (c .before .before .before .before .before .before .before .before .before .before .before .before .before .before .before .before .before .outer .inv .0) _ _ (c .before .before .before .before .before .before .before .before .before .before .before .before .before .before .pop-least .ensures .0) (c .before .before .before .before .before .before .before .before .before .before .before .before .before .before .pop-least .ensures .1 .0) _ (c .before .before .before .before .before .before .before .before .top .given .1), l .6), record { g-long = S .g-len; p-long = S .p-len; q-long = S .q-len; index = c .before .before .before .before .before .before .before .before .before .before .before .before .before .before .pop-least .ensures .1 .1; known = c .before .before .before .before .before .before .before .before .before .before .before .before .before .before .before .before .before .outer .inv .2 }))
+    let S = going-shape _ _ (roads _ (c .before .before .before .before .before .before .before .before .before .before .before .before .before .before .before .before .before .before .before .before .before .before .before .before .before .before .before .before .before .before .before .before .before .before .before .before .before .before .before .before .pre .0)) _ _ _ _ (c .before .before .before .before .before .before .before .before .before .before .before .before .before .before .before .before .before .outer .inv .0) _ _ (c .before .before .before .before .before .before .before .before .before .before .before .before .before .before .pop-least .ensures .0) (c .before .before .before .before .before .before .before .before .before .before .before .before .before .before .pop-least .ensures .1 .0) _ (c .before .before .before .before .before .before .before .before .top .given .1) in
+    let l = c .before .before .before .before .before .before .before .before .before .before .before .before .before .before .before .before .before .before .before .before .before .before .before .before .before .before .before .before .before .before .before .before .before .before .before .before .before .before .before .before .pre .1 in
+    (c .before .before .before .before .before .before .before .before .before .before .before .before .before .before .before .before .before .before .before .before .before .before .before .before .before .before .before .before .before .before .before .before .before .before .before .before .before .before .before .before .pre .0, (((going-in _ _ (roads _ (c .before .before .before .before .before .before .before .before .before .before .before .before .before .before .before .before .before .before .before .before .before .before .before .before .before .before .before .before .before .before .before .before .before .before .before .before .before .before .before .before .pre .0)) _ _ _ _ (c .before .before .before .before .before .before .before .before .before .before .before .before .before .before .before .before .before .outer .inv .0) _ _ (c .before .before .before .before .before .before .before .before .before .before .before .before .before .before .pop-least .ensures .0) (c .before .before .before .before .before .before .before .before .before .before .before .before .before .before .pop-least .ensures .1 .0) _ (c .before .before .before .before .before .before .before .before .top .given .1)), going-low _ _ (roads _ (c .before .before .before .before .before .before .before .before .before .before .before .before .before .before .before .before .before .before .before .before .before .before .before .before .before .before .before .before .before .before .before .before .before .before .before .before .before .before .before .before .pre .0)) _ _ _ _ (c .before .before .before .before .before .before .before .before .before .before .before .before .before .before .before .before .before .outer .inv .0) _ _ (c .before .before .before .before .before .before .before .before .before .before .before .before .before .before .pop-least .ensures .0) (c .before .before .before .before .before .before .before .before .before .before .before .before .before .before .pop-least .ensures .1 .0) _ (c .before .before .before .before .before .before .before .before .top .given .1), going-pred _ _ (roads _ (c .before .before .before .before .before .before .before .before .before .before .before .before .before .before .before .before .before .before .before .before .before .before .before .before .before .before .before .before .before .before .before .before .before .before .before .before .before .before .before .before .pre .0)) _ _ _ _ (c .before .before .before .before .before .before .before .before .before .before .before .before .before .before .before .before .before .outer .inv .0) _ _ (c .before .before .before .before .before .before .before .before .before .before .before .before .before .before .pop-least .ensures .0) (c .before .before .before .before .before .before .before .before .before .before .before .before .before .before .pop-least .ensures .1 .0) _ (c .before .before .before .before .before .before .before .before .top .given .1), l .6), record { g-long = S .g-len; p-long = S .p-len; q-long = S .q-len; index = c .before .before .before .before .before .before .before .before .before .before .before .before .before .before .pop-least .ensures .1 .1; known = c .before .before .before .before .before .before .before .before .before .before .before .before .before .before .before .before .before .outer .inv .2 }))
 
 outer-less : tie.Need-outer-less Inv-outer μ-outer
-outer-less c = going-less _ _ (roads _ (c .before .before .before .before .before .before .before .before .before .before .before .before .before .before .before .before .before .before .before .before .before .before .before .before .before .before .before .before .before .before .before .before .before .before .before .before .before .before .before .before .before .before .before .before .before .before .before .before .before .before .before .before .before .before .before .pre .0)) _ _ _ _ (c .before .before .before .before .before .before .before .before .before .before .before .before .before .before .before .before .before .before .before .before .before .before .before .before .before .before .before .before .outer .inv .0) _ _ (c .before .before .before .before .before .before .before .before .before .before .before .before .before .before .before .before .before .before .before .before .before .before .before .before .before .pop-least .ensures .0) (c .before .before .before .before .before .before .before .before .before .before .before .before .before .before .before .before .before .before .before .before .before .before .before .before .before .pop-least .ensures .1 .0) _ (c .before .before .before .before .before .before .before .before .before .before .before .before .before .before .before .before .before .before .before .top .given .1) (marked-no _ _ _ (c .before .before .before .before .before .before .before .before .before .before .before .before .before .before .before .before .before .before .before .before .before .before .before .before .before .before .before .before .before .before .before .before .before .before .before .before .before .before .before .before .before .before .before .before .before .before .before .before .before .before .before .before .before .before .before .pre .1 .7) _ (going-in _ _ (roads _ (c .before .before .before .before .before .before .before .before .before .before .before .before .before .before .before .before .before .before .before .before .before .before .before .before .before .before .before .before .before .before .before .before .before .before .before .before .before .before .before .before .before .before .before .before .before .before .before .before .before .before .before .before .before .before .before .pre .0)) _ _ _ _ (c .before .before .before .before .before .before .before .before .before .before .before .before .before .before .before .before .before .before .before .before .before .before .before .before .before .before .before .before .outer .inv .0) _ _ (c .before .before .before .before .before .before .before .before .before .before .before .before .before .before .before .before .before .before .before .before .before .before .before .before .before .pop-least .ensures .0) (c .before .before .before .before .before .before .before .before .before .before .before .before .before .before .before .before .before .before .before .before .before .before .before .before .before .pop-least .ensures .1 .0) _ (c .before .before .before .before .before .before .before .before .before .before .before .before .before .before .before .before .before .before .before .top .given .1)) (c .before .before .before .before .before .before .before .before .before .before .before .before .before .before .before .before .if1 .left)) _ (c .before .before .before .before .before .before .before .before .before .before .expand .ensures .0)
+outer-less c = going-less _ _ (roads _ (c .before .before .before .before .before .before .before .before .before .before .before .before .before .before .before .before .before .before .before .before .before .before .before .before .before .before .before .before .before .before .before .before .before .before .before .before .before .before .before .before .before .before .before .before .before .before .before .before .before .before .before .pre .0)) _ _ _ _ (c .before .before .before .before .before .before .before .before .before .before .before .before .before .before .before .before .before .before .before .before .before .before .before .before .before .before .before .before .outer .inv .0) _ _ (c .before .before .before .before .before .before .before .before .before .before .before .before .before .before .before .before .before .before .before .before .before .before .before .before .before .pop-least .ensures .0) (c .before .before .before .before .before .before .before .before .before .before .before .before .before .before .before .before .before .before .before .before .before .before .before .before .before .pop-least .ensures .1 .0) _ (c .before .before .before .before .before .before .before .before .before .before .before .before .before .before .before .before .before .before .before .top .given .1) (marked-no _ _ _ (c .before .before .before .before .before .before .before .before .before .before .before .before .before .before .before .before .before .before .before .before .before .before .before .before .before .before .before .before .before .before .before .before .before .before .before .before .before .before .before .before .before .before .before .before .before .before .before .before .before .before .before .pre .1 .7) _ (going-in _ _ (roads _ (c .before .before .before .before .before .before .before .before .before .before .before .before .before .before .before .before .before .before .before .before .before .before .before .before .before .before .before .before .before .before .before .before .before .before .before .before .before .before .before .before .before .before .before .before .before .before .before .before .before .before .before .pre .0)) _ _ _ _ (c .before .before .before .before .before .before .before .before .before .before .before .before .before .before .before .before .before .before .before .before .before .before .before .before .before .before .before .before .outer .inv .0) _ _ (c .before .before .before .before .before .before .before .before .before .before .before .before .before .before .before .before .before .before .before .before .before .before .before .before .before .pop-least .ensures .0) (c .before .before .before .before .before .before .before .before .before .before .before .before .before .before .before .before .before .before .before .before .before .before .before .before .before .pop-least .ensures .1 .0) _ (c .before .before .before .before .before .before .before .before .before .before .before .before .before .before .before .before .before .before .before .top .given .1)) (c .before .before .before .before .before .before .before .before .before .before .before .before .before .before .before .before .if1 .left)) _ (c .before .before .before .before .before .before .before .before .before .before .expand .ensures .0)
 
 outer-again : tie.Need-outer-again Inv-outer μ-outer
-outer-again c = (going-on _ _ (roads _ (c .before .before .before .before .before .before .before .before .before .before .before .before .before .before .before .before .before .before .before .before .before .before .before .before .before .before .before .before .before .before .before .before .before .before .before .before .before .before .before .before .before .before .before .before .before .before .before .before .before .before .before .before .before .before .before .pre .0)) _ _ _ _ (c .before .before .before .before .before .before .before .before .before .before .before .before .before .before .before .before .before .before .before .before .before .before .before .before .before .before .before .before .outer .inv .0) _ _ (c .before .before .before .before .before .before .before .before .before .before .before .before .before .before .before .before .before .before .before .before .before .before .before .before .before .pop-least .ensures .0) (c .before .before .before .before .before .before .before .before .before .before .before .before .before .before .before .before .before .before .before .before .before .before .before .before .before .pop-least .ensures .1 .0) _ (c .before .before .before .before .before .before .before .before .before .before .before .before .before .before .before .before .before .before .before .top .given .1) (marked-no _ _ _ (c .before .before .before .before .before .before .before .before .before .before .before .before .before .before .before .before .before .before .before .before .before .before .before .before .before .before .before .before .before .before .before .before .before .before .before .before .before .before .before .before .before .before .before .before .before .before .before .before .before .before .before .before .before .before .before .pre .1 .7) _ (going-in _ _ (roads _ (c .before .before .before .before .before .before .before .before .before .before .before .before .before .before .before .before .before .before .before .before .before .before .before .before .before .before .before .before .before .before .before .before .before .before .before .before .before .before .before .before .before .before .before .before .before .before .before .before .before .before .before .before .before .before .before .pre .0)) _ _ _ _ (c .before .before .before .before .before .before .before .before .before .before .before .before .before .before .before .before .before .before .before .before .before .before .before .before .before .before .before .before .outer .inv .0) _ _ (c .before .before .before .before .before .before .before .before .before .before .before .before .before .before .before .before .before .before .before .before .before .before .before .before .before .pop-least .ensures .0) (c .before .before .before .before .before .before .before .before .before .before .before .before .before .before .before .before .before .before .before .before .before .before .before .before .before .pop-least .ensures .1 .0) _ (c .before .before .before .before .before .before .before .before .before .before .before .before .before .before .before .before .before .before .before .top .given .1)) (c .before .before .before .before .before .before .before .before .before .before .before .before .before .before .before .before .if1 .left)) _ (c .before .before .before .before .before .before .before .before .before .before .expand .ensures .0), c .before .before .before .before .before .before .before .before .before .before .expand .ensures .1 .index, c .before .before .before .before .before .before .before .before .before .before .expand .ensures .1 .known, c .before .before .before .before .before .before .before .before .before .before .expand .kept .1 .1 .1 .1 .1 .1 .1 .1 .1 .0 ∙ c .before .before .before .before .before .before .before .before .before .before .before .before .before .before .before .before .before .before .before .before .before .before .before .before .before .pop-least .kept .1 .0 ∙ c .before .before .before .before .before .before .before .before .before .before .before .before .before .before .before .before .before .before .before .before .before .before .before .before .before .before .before .before .outer .inv .3)
+outer-again c = (going-on _ _ (roads _ (c .before .before .before .before .before .before .before .before .before .before .before .before .before .before .before .before .before .before .before .before .before .before .before .before .before .before .before .before .before .before .before .before .before .before .before .before .before .before .before .before .before .before .before .before .before .before .before .before .before .before .before .pre .0)) _ _ _ _ (c .before .before .before .before .before .before .before .before .before .before .before .before .before .before .before .before .before .before .before .before .before .before .before .before .before .before .before .before .outer .inv .0) _ _ (c .before .before .before .before .before .before .before .before .before .before .before .before .before .before .before .before .before .before .before .before .before .before .before .before .before .pop-least .ensures .0) (c .before .before .before .before .before .before .before .before .before .before .before .before .before .before .before .before .before .before .before .before .before .before .before .before .before .pop-least .ensures .1 .0) _ (c .before .before .before .before .before .before .before .before .before .before .before .before .before .before .before .before .before .before .before .top .given .1) (marked-no _ _ _ (c .before .before .before .before .before .before .before .before .before .before .before .before .before .before .before .before .before .before .before .before .before .before .before .before .before .before .before .before .before .before .before .before .before .before .before .before .before .before .before .before .before .before .before .before .before .before .before .before .before .before .before .pre .1 .7) _ (going-in _ _ (roads _ (c .before .before .before .before .before .before .before .before .before .before .before .before .before .before .before .before .before .before .before .before .before .before .before .before .before .before .before .before .before .before .before .before .before .before .before .before .before .before .before .before .before .before .before .before .before .before .before .before .before .before .before .pre .0)) _ _ _ _ (c .before .before .before .before .before .before .before .before .before .before .before .before .before .before .before .before .before .before .before .before .before .before .before .before .before .before .before .before .outer .inv .0) _ _ (c .before .before .before .before .before .before .before .before .before .before .before .before .before .before .before .before .before .before .before .before .before .before .before .before .before .pop-least .ensures .0) (c .before .before .before .before .before .before .before .before .before .before .before .before .before .before .before .before .before .before .before .before .before .before .before .before .before .pop-least .ensures .1 .0) _ (c .before .before .before .before .before .before .before .before .before .before .before .before .before .before .before .before .before .before .before .top .given .1)) (c .before .before .before .before .before .before .before .before .before .before .before .before .before .before .before .before .if1 .left)) _ (c .before .before .before .before .before .before .before .before .before .before .expand .ensures .0), c .before .before .before .before .before .before .before .before .before .before .expand .ensures .1 .index, c .before .before .before .before .before .before .before .before .before .before .expand .ensures .1 .known, c .before .before .before .before .before .before .before .before .before .before .expand .kept .1 .1 .1 .1 .1 .1 .1 .1 .1 .0 ∙ c .before .before .before .before .before .before .before .before .before .before .before .before .before .before .before .before .before .before .before .before .before .before .before .before .before .pop-least .kept .1 .0 ∙ c .before .before .before .before .before .before .before .before .before .before .before .before .before .before .before .before .before .before .before .before .before .before .before .before .before .before .before .before .outer .inv .3)
 
 same-length : tie.Need-same-length Inv-outer μ-outer
-same-length c = c .before .before .before .before .before .before .before .before .before .outer .inv .0 .inv .g-len ∙ sym (c .before .before .before .before .before .before .before .before .before .before .before .before .before .before .before .before .before .before .before .before .before .before .before .before .before .before .before .before .before .before .before .before .before .before .before .before .pre .1 .0)
+same-length c = c .before .before .before .before .before .before .before .before .before .outer .inv .0 .inv .g-len ∙ sym (blank-long _ _ _ (c .before .before .before .before .before .before .before .before .before .before .before .before .before .before .before .before .before .before .before .before .before .before .before .before .before .before .before .before .before .before .before .before .pre .1 .0))
 
 same-length-2 : tie.Need-same-length-2 Inv-outer μ-outer
-same-length-2 c = c .before .before .before .before .before .before .before .before .before .outer .inv .0 .inv .p-len ∙ sym (c .before .before .before .before .before .before .before .before .before .before .before .before .before .before .before .before .before .before .before .before .before .before .before .before .before .before .before .before .before .before .before .before .before .before .before .before .pre .1 .1)
+same-length-2 c = c .before .before .before .before .before .before .before .before .before .outer .inv .0 .inv .p-len ∙ sym (blank-long _ _ _ (c .before .before .before .before .before .before .before .before .before .before .before .before .before .before .before .before .before .before .before .before .before .before .before .before .before .before .before .before .before .before .before .before .pre .1 .1))
 
 same-length-3 : tie.Need-same-length-3 Inv-outer μ-outer
-same-length-3 c = going-len _ _ (roads _ (c .before .before .before .before .before .before .before .before .before .before .before .before .before .before .before .before .before .before .before .before .before .before .before .before .before .before .before .before .before .before .before .before .before .before .before .before .pre .0)) _ _ _ _ (c .before .before .before .before .before .before .before .before .before .outer .inv .0) _ _ (c .before .before .before .before .before .before .pop-least .ensures .0) (c .before .before .before .before .before .before .pop-least .ensures .1 .0) ∙ sym (c .before .before .before .before .before .before .before .before .before .before .before .before .before .before .before .before .before .before .before .before .before .before .before .before .before .before .before .before .before .before .before .before .before .before .before .before .pre .1 .2)
+same-length-3 c = going-len _ _ (roads _ (c .before .before .before .before .before .before .before .before .before .before .before .before .before .before .before .before .before .before .before .before .before .before .before .before .before .before .before .before .before .before .before .before .pre .0)) _ _ _ _ (c .before .before .before .before .before .before .before .before .before .outer .inv .0) _ _ (c .before .before .before .before .before .before .pop-least .ensures .0) (c .before .before .before .before .before .before .pop-least .ensures .1 .0) ∙ sym (blank-long _ _ _ (c .before .before .before .before .before .before .before .before .before .before .before .before .before .before .before .before .before .before .before .before .before .before .before .before .before .before .before .before .before .before .before .before .pre .1 .2))
 
 same-length-4 : tie.Need-same-length-4 Inv-outer μ-outer
-same-length-4 c = c .before .before .before .before .before .before .pop-least .kept .1 .0 ∙ c .before .before .before .before .before .before .before .before .before .outer .inv .3 ∙ c .before .before .before .before .before .before .before .before .before .before .before .before .before .before .before .before .before .before .before .before .before .before .begin .kept .1 .1 .1 .0
+same-length-4 c = c .before .before .before .before .before .before .pop-least .kept .1 .0 ∙ c .before .before .before .before .before .before .before .before .before .outer .inv .3 ∙ c .before .before .before .before .before .before .before .before .before .before .before .before .before .before .before .before .before .before .begin .kept .1 .1 .1 .0
 
 same-length-5 : tie.Need-same-length-5 Inv-outer μ-outer
-same-length-5 c = c .before .before .before .before .before .before .before .before .before .outer .inv .2 .long ∙ sym (c .before .before .before .before .before .before .before .before .before .before .before .before .before .before .before .before .before .before .before .before .before .before .before .before .before .before .before .before .before .before .before .before .before .before .before .before .pre .1 .3)
+same-length-5 c = c .before .before .before .before .before .before .before .before .before .outer .inv .2 .long ∙ sym (blank-long _ _ _ (c .before .before .before .before .before .before .before .before .before .before .before .before .before .before .before .before .before .before .before .before .before .before .before .before .before .before .before .before .before .before .before .before .pre .1 .3))
 
 returns : tie.Need-returns Inv-outer μ-outer
-returns c = going-empty _ _ (roads _ (c .before .before .before .before .before .before .before .before .before .before .before .before .before .before .before .before .before .before .before .before .before .before .before .before .before .before .before .before .before .before .before .before .before .before .before .before .pre .0)) _ _ _ _ (c .before .before .before .before .before .before .before .before .before .outer .inv .0) _ _ (c .before .before .before .before .before .before .pop-least .ensures .0) (c .before .before .before .before .before .before .pop-least .ensures .1 .0) (c .enum-told .given .1)
+returns c = going-empty _ _ (roads _ (c .before .before .before .before .before .before .before .before .before .before .before .before .before .before .before .before .before .before .before .before .before .before .before .before .before .before .before .before .before .before .before .before .pre .0)) _ _ _ _ (c .before .before .before .before .before .before .before .before .before .outer .inv .0) _ _ (c .before .before .before .before .before .before .pop-least .ensures .0) (c .before .before .before .before .before .before .pop-least .ensures .1 .0) (c .enum-told .given .1)
 
 same-length-6 : tie.Need-same-length-6 Inv-outer μ-outer
-same-length-6 c = c .before .before .before .before .before .before .before .before .before .before .before .before .outer .inv .0 .inv .g-len ∙ sym (c .before .before .before .before .before .before .before .before .before .before .before .before .before .before .before .before .before .before .before .before .before .before .before .before .before .before .before .before .before .before .before .before .before .before .before .before .before .before .before .pre .1 .0)
+same-length-6 c = c .before .before .before .before .before .before .before .before .before .before .before .before .outer .inv .0 .inv .g-len ∙ sym (blank-long _ _ _ (c .before .before .before .before .before .before .before .before .before .before .before .before .before .before .before .before .before .before .before .before .before .before .before .before .before .before .before .before .before .before .before .before .before .before .before .pre .1 .0))
 
 same-length-7 : tie.Need-same-length-7 Inv-outer μ-outer
-same-length-7 c = c .before .before .before .before .before .before .before .before .before .before .before .before .outer .inv .0 .inv .p-len ∙ sym (c .before .before .before .before .before .before .before .before .before .before .before .before .before .before .before .before .before .before .before .before .before .before .before .before .before .before .before .before .before .before .before .before .before .before .before .before .before .before .before .pre .1 .1)
+same-length-7 c = c .before .before .before .before .before .before .before .before .before .before .before .before .outer .inv .0 .inv .p-len ∙ sym (blank-long _ _ _ (c .before .before .before .before .before .before .before .before .before .before .before .before .before .before .before .before .before .before .before .before .before .before .before .before .before .before .before .before .before .before .before .before .before .before .before .pre .1 .1))
 
 same-length-8 : tie.Need-same-length-8 Inv-outer μ-outer
-same-length-8 c = going-len _ _ (roads _ (c .before .before .before .before .before .before .before .before .before .before .before .before .before .before .before .before .before .before .before .before .before .before .before .before .before .before .before .before .before .before .before .before .before .before .before .before .before .before .before .pre .0)) _ _ _ _ (c .before .before .before .before .before .before .before .before .before .before .before .before .outer .inv .0) _ _ (c .before .before .before .before .before .before .before .before .before .pop-least .ensures .0) (c .before .before .before .before .before .before .before .before .before .pop-least .ensures .1 .0) ∙ sym (c .before .before .before .before .before .before .before .before .before .before .before .before .before .before .before .before .before .before .before .before .before .before .before .before .before .before .before .before .before .before .before .before .before .before .before .before .before .before .before .pre .1 .2)
+same-length-8 c = going-len _ _ (roads _ (c .before .before .before .before .before .before .before .before .before .before .before .before .before .before .before .before .before .before .before .before .before .before .before .before .before .before .before .before .before .before .before .before .before .before .before .pre .0)) _ _ _ _ (c .before .before .before .before .before .before .before .before .before .before .before .before .outer .inv .0) _ _ (c .before .before .before .before .before .before .before .before .before .pop-least .ensures .0) (c .before .before .before .before .before .before .before .before .before .pop-least .ensures .1 .0) ∙ sym (blank-long _ _ _ (c .before .before .before .before .before .before .before .before .before .before .before .before .before .before .before .before .before .before .before .before .before .before .before .before .before .before .before .before .before .before .before .before .before .before .before .pre .1 .2))
 
 same-length-9 : tie.Need-same-length-9 Inv-outer μ-outer
-same-length-9 c = c .before .before .before .before .before .before .before .before .before .pop-least .kept .1 .0 ∙ c .before .before .before .before .before .before .before .before .before .before .before .before .outer .inv .3 ∙ c .before .before .before .before .before .before .before .before .before .before .before .before .before .before .before .before .before .before .before .before .before .before .before .before .before .begin .kept .1 .1 .1 .0
+same-length-9 c = c .before .before .before .before .before .before .before .before .before .pop-least .kept .1 .0 ∙ c .before .before .before .before .before .before .before .before .before .before .before .before .outer .inv .3 ∙ c .before .before .before .before .before .before .before .before .before .before .before .before .before .before .before .before .before .before .before .before .before .begin .kept .1 .1 .1 .0
 
 same-length-10 : tie.Need-same-length-10 Inv-outer μ-outer
-same-length-10 c = c .before .before .before .before .before .before .before .before .before .before .before .before .outer .inv .2 .long ∙ sym (c .before .before .before .before .before .before .before .before .before .before .before .before .before .before .before .before .before .before .before .before .before .before .before .before .before .before .before .before .before .before .before .before .before .before .before .before .before .before .before .pre .1 .3)
+same-length-10 c = c .before .before .before .before .before .before .before .before .before .before .before .before .outer .inv .2 .long ∙ sym (blank-long _ _ _ (c .before .before .before .before .before .before .before .before .before .before .before .before .before .before .before .before .before .before .before .before .before .before .before .before .before .before .before .before .before .before .before .before .before .before .before .pre .1 .3))
 
 returns-2 : tie.Need-returns-2 Inv-outer μ-outer
-returns-2 c = going-hit _ _ (roads _ (c .before .before .before .before .before .before .before .before .before .before .before .before .before .before .before .before .before .before .before .before .before .before .before .before .before .before .before .before .before .before .before .before .before .before .before .before .before .before .before .pre .0)) _ _ _ _ (c .before .before .before .before .before .before .before .before .before .before .before .before .outer .inv .0) _ _ (c .before .before .before .before .before .before .before .before .before .pop-least .ensures .0) (c .before .before .before .before .before .before .before .before .before .pop-least .ensures .1 .0) _ (c .before .before .before .top .given .1) (marked-yes _ _ _ (c .before .before .before .before .before .before .before .before .before .before .before .before .before .before .before .before .before .before .before .before .before .before .before .before .before .before .before .before .before .before .before .before .before .before .before .before .before .before .before .pre .1 .7) _ (going-in _ _ (roads _ (c .before .before .before .before .before .before .before .before .before .before .before .before .before .before .before .before .before .before .before .before .before .before .before .before .before .before .before .before .before .before .before .before .before .before .before .before .before .before .before .pre .0)) _ _ _ _ (c .before .before .before .before .before .before .before .before .before .before .before .before .outer .inv .0) _ _ (c .before .before .before .before .before .before .before .before .before .pop-least .ensures .0) (c .before .before .before .before .before .before .before .before .before .pop-least .ensures .1 .0) _ (c .before .before .before .top .given .1)) (c .if1 .taken))
+returns-2 c = going-hit _ _ (roads _ (c .before .before .before .before .before .before .before .before .before .before .before .before .before .before .before .before .before .before .before .before .before .before .before .before .before .before .before .before .before .before .before .before .before .before .before .pre .0)) _ _ _ _ (c .before .before .before .before .before .before .before .before .before .before .before .before .outer .inv .0) _ _ (c .before .before .before .before .before .before .before .before .before .pop-least .ensures .0) (c .before .before .before .before .before .before .before .before .before .pop-least .ensures .1 .0) _ (c .before .before .before .top .given .1) (marked-yes _ _ _ (c .before .before .before .before .before .before .before .before .before .before .before .before .before .before .before .before .before .before .before .before .before .before .before .before .before .before .before .before .before .before .before .before .before .before .before .pre .1 .7) _ (going-in _ _ (roads _ (c .before .before .before .before .before .before .before .before .before .before .before .before .before .before .before .before .before .before .before .before .before .before .before .before .before .before .before .before .before .before .before .before .before .before .before .pre .0)) _ _ _ _ (c .before .before .before .before .before .before .before .before .before .before .before .before .outer .inv .0) _ _ (c .before .before .before .before .before .before .before .before .before .pop-least .ensures .0) (c .before .before .before .before .before .before .before .before .before .pop-least .ensures .1 .0) _ (c .before .before .before .top .given .1)) (c .if1 .taken))
 
 pub find-path-impl-spec : {M : Type 1} → statement M
 find-path-impl-spec =
@@ -102,7 +101,6 @@ find-path-impl-spec =
     Inv-outer
     μ-outer
     begin-requires
-    fill-requires
     outer-holds
     pop-least-requires
     enum-told

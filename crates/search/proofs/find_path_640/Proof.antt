@@ -1,9 +1,10 @@
 -- The scratch has room for the graph and the ends.
+use Prim.Native.Nat.{_*_, _≤_}
 use native.Mathlib.Omega.{arith}
-use Rattle.search.proofs.Lines.{few-or-none}
+use Rattle.search.proofs.Lines.{blank}
 use borrow.Author.Needs.{needs}
-use Rattle.search.proofs.find_path_large.Statement.{statement}
-use Rattle.search.proofs.find_path_large.Tie as tie
+use Rattle.search.proofs.find_path_640.Statement.{statement}
+use Rattle.search.proofs.find_path_640.Tie as tie
 
 slice-aggregate-find-path-in : tie.Need-slice-aggregate-find-path-in
 slice-aggregate-find-path-in c = search needs
@@ -34,8 +35,11 @@ slice-aggregate-find-path-in-9 c = search needs
 
 find-path-in-requires : tie.Need-find-path-in-requires
 find-path-in-requires c κs =
-    let few = few-or-none _ (c .before .before .before .before .before .before .before .before .before .before .before .before .before .before .before .before .before .pre .0) in
-    (c .before .before .before .before .before .before .before .before .before .before .before .before .before .before .before .before .before .pre .0, (c .before .before .before .before .before .before .before .before .before .before .before .before .before .before .before .before .before .pre .1, record { ends-room = omega (arith, c .before .before .before .before .before .before .before .before .before .before .before .before .before .before .before .before .before .pre .1 .most); marked-room = omega (arith, few); kept-room = omega (arith, c .before .before .before .before .before .before .before .before .before .before .before .before .before .before .before .before .before .pre .1 .most); g-room = omega (arith, few); pred-room = omega (arith, few); queue-room = omega (arith, few); estimates-room = omega (arith, few); path-room = omega (arith, few); tree-room = search needs }))
+    let p = c .before .before .before .before .before .before .before .before .before .before .before .before .before .before .before .before .before .pre in
+    let room = p .1 .1 .0 in
+    let few = p .1 .1 .1 in
+    let twice : 2 * c .before .before .before .before .before .before .before .before .before .before .before .before .before .before .before .before .before .args .n ≤ 1280 = omega arith in
+    (p .0, (p .1 .0, record { ends-room = omega arith; marked-room = omega arith; kept-room = omega arith; g-room = omega arith; pred-room = omega arith; queue-room = omega arith; tree-room = omega arith; estimates-room = omega arith; path-room = omega arith; marked-blank = blank _ _ _ room; g-blank = blank _ _ _ room; pred-blank = blank _ _ _ room; queue-blank = blank _ _ _ room; tree-blank = blank _ _ _ twice; estimates-blank = blank _ _ _ room }))
 
 same-length : tie.Need-same-length
 same-length c = search needs
@@ -52,8 +56,8 @@ same-length-4 c = search needs
 returns : tie.Need-returns
 returns c = search needs
 
-pub find-path-large-spec : {M : Type 1} → statement M
-find-path-large-spec =
+pub find-path-640-spec : {M : Type 1} → statement M
+find-path-640-spec =
     tie.close
     (tie.spec
     slice-aggregate-find-path-in
