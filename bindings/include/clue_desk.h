@@ -64,8 +64,8 @@ extern "C" {
 #define CLUE_DESK_ID 65535
 #define CLUE_DESK_COORDINATE 4194304
 
-/* Bytes of stack that suffice for a call; measured, not proved: layout takes 466,040 of a thread's, search 322,960, the other calls
- * 73,592. */
+/* Bytes of stack that suffice for a call; measured, not proved: layout takes 519,816 of a thread's, search 378,344, the other calls
+ * 70,040. */
 #define CLUE_DESK_STACK 655360
 
 /* A port's directions are a sum of these; the direction onward of a line's node is one of them. */

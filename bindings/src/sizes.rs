@@ -52,6 +52,6 @@ pub const POS_X: u32 = 2;
 pub const NEG_Y: u32 = 4;
 pub const POS_Y: u32 = 8;
 
-/// Bytes of stack that suffice for a call; measured, not proved: a layout takes 466,040 of a
-/// thread's, a search 322,960, the other calls 73,592.
+/// Bytes of stack that suffice for a call; measured, not proved: a layout takes 519,816 of a
+/// thread's, a search 378,344, the other calls 70,040.
 pub const STACK: usize = 640 * 1024;
