@@ -347,7 +347,7 @@ fn expand(
     }
 }
 
-// The first turn of a search whose lists are blank: the start has a score and a queue entry, both 0.
+// Before the first turn: in blank lists only the start gets a score and a queue entry, both 0.
 fn begin(g: &mut [u64], pred: &mut [u32], queue: &mut [u64], tree: &mut [u64], start: usize)
     requires { ⌜ (start < length (now queue)) × (now g ≡ replicate (length (now queue)) UNSET) × (now pred ≡ replicate (length (now queue)) none) × (now queue ≡ replicate (length (now queue)) UNSET) × Indexed (now queue) (now tree) ⌝ }
     ensures { λ _. ⌜ st (now (g .exit)) (now (pred .exit)) (now (queue .exit)) ≡ beginS (length (now (queue .entry))) start ⌝ }

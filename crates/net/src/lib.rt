@@ -256,7 +256,7 @@ fn branch_line_in(
     )
 }
 
-// The same for at most 256 ends: a net seldom has more.
+// The same for at most 256 ends, whose columns take less time to clear.
 fn branch_line_few(
     xs: &[i32],
     ys: &[i32],

@@ -128,7 +128,7 @@ fn find_path_in(
     )
 }
 
-// A search on a graph of at most 256 nodes, to at most 256 ends. The time to clear its scratch counts, so there are four sizes of it.
+// A search on a graph of at most 256 nodes, to at most 256 ends. The time to fill its scratch counts, so there are four sizes of it.
 fn find_path_256(
     xs: &[i32],
     ys: &[i32],
