@@ -33,12 +33,13 @@ pub record TwoBoxes : Type 0 where
   pub ys : downs (two-boxes .ys) ≡ pos 2560 ∷ pos 2560 ∷ negsuc 2558 ∷ pos 7679 ∷ []
   pub ways : directions (two-boxes .level) (length (two-boxes .xs)) ≡ X ∷ X ∷ Y ∷ Y ∷ []
 
--- four boxes, their padded edges in steps, whose rows lose runs out of their midst: the last run fills the hole, and the order of the anchors shows it
+-- three boxes, their padded edges in steps: the column from 20 to 40 takes its run from 0 to 20 out of the next column, whose last run, from 50 to 60, fills the hole; so
+-- the anchors of that run come before those of the run from 30 to 40
 unfoldable pub holes : Anchors
 holes =
-    anchors (boxes 4 (pos 68 ∷ pos 836 ∷ pos 2116 ∷ pos 836 ∷ []) (pos 837 ∷ pos 1605 ∷ pos 2629 ∷ pos 1349 ∷ []) (pos 1092 ∷ pos 68 ∷ negsuc 187 ∷ pos 324 ∷ []) (pos 2116 ∷ pos 1092 ∷ pos 836 ∷ pos 580 ∷ []))
+    anchors (boxes 3 (pos 40 ∷ pos 20 ∷ pos 10 ∷ []) (pos 80 ∷ pos 80 ∷ pos 20 ∷ []) (pos 40 ∷ pos 20 ∷ pos 0 ∷ []) (pos 50 ∷ pos 30 ∷ pos 60 ∷ []))
 
 pub record Holes : Type 0 where
-  pub xs : downs (holes .xs) ≡ pos 69 ∷ pos 2115 ∷ pos 69 ∷ pos 835 ∷ pos 1606 ∷ pos 2115 ∷ pos 1606 ∷ pos 2628 ∷ pos 838 ∷ pos 2628 ∷ pos 452 ∷ pos 452 ∷ pos 1220 ∷ pos 1220 ∷ pos 1221 ∷ pos 1221 ∷ pos 1860 ∷ pos 1860 ∷ pos 2372 ∷ pos 2372 ∷ []
-  pub ys : downs (holes .ys) ≡ negsuc 59 ∷ negsuc 59 ∷ pos 580 ∷ pos 580 ∷ pos 452 ∷ pos 452 ∷ pos 964 ∷ pos 964 ∷ pos 1604 ∷ pos 1604 ∷ negsuc 186 ∷ pos 1091 ∷ negsuc 186 ∷ pos 67 ∷ pos 1093 ∷ pos 2115 ∷ negsuc 186 ∷ pos 2115 ∷ pos 837 ∷ pos 2115 ∷ []
-  pub level : holes .level ≡ 10
+  pub xs : downs (holes .xs) ≡ pos 21 ∷ pos 79 ∷ pos 21 ∷ pos 79 ∷ pos 21 ∷ pos 39 ∷ pos 21 ∷ pos 79 ∷ pos 50 ∷ pos 50 ∷ pos 30 ∷ pos 30 ∷ pos 60 ∷ pos 60 ∷ pos 60 ∷ pos 60 ∷ []
+  pub ys : downs (holes .ys) ≡ pos 10 ∷ pos 10 ∷ pos 35 ∷ pos 35 ∷ pos 45 ∷ pos 45 ∷ pos 55 ∷ pos 55 ∷ pos 1 ∷ pos 19 ∷ pos 31 ∷ pos 59 ∷ pos 51 ∷ pos 59 ∷ pos 31 ∷ pos 39 ∷ []
+  pub level : holes .level ≡ 8

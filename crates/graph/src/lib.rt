@@ -1,4 +1,4 @@
-// The graph of a page: from its records to nodes and links.
+// The graph of padded boxes and anchors: axis lists, nodes, scans, and pruning if it is asked for.
 ghost use Prim.Native.Nat.{_≤_};
 ghost use lib.ListN.{length};
 ghost use Rattle.nodes.specs.Lent.{graph, Roomy, Built};

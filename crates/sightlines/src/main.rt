@@ -1,5 +1,5 @@
 // Shows sightlines at work: a box from x = 100 units is padded to 90, an anchor stands at 0, and each coordinate to its right is told to be clear
-// or blocked; then how far the anchor sees.
+// or blocked.
 ghost use Prim.Native.Nat.{_≤_};
 ghost use lib.ListN.{length};
 ghost use Rattle.sightline.specs.Lent.{Held};
