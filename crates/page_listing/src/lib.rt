@@ -3,18 +3,23 @@ ghost use mathlib.Core.Path.{_≡_};
 ghost use mathlib.Core.Bool.{true};
 ghost use Prim.Native.Nat.{_≤_};
 ghost use lib.Dec.{eqb};
-ghost use lib.ListN.{length};
+ghost use lib.ListN.{length, take};
 ghost use Rattle.desk.specs.Sizes.{DESK};
 ghost use Rattle.desk.specs.Book.{valid};
 ghost use Rattle.desk.specs.Desk.{bookOf};
 ghost use Rattle.decimals.specs.Write.{Put};
 ghost use Rattle.listing.specs.Listing.{listing, First};
 ghost use Rattle.page_layout.specs.Drawing.{drawing};
+ghost use Rattle.page_text.specs.Law.{TEXT};
 ghost use Rattle.page_listing.specs.Fits.{Fits};
+ghost use Rattle.page_listing.specs.Claims.{Prints};
 ghost use Rattle.page_listing.specs.Printed.{ROOM, pageOn, pagePrinted, printed};
 
 // The bytes that are printed of a page at most.
 pub const ROOM: usize = 29696;
+
+// The bytes of a text that decide: at most 640 lines of 64 bytes go, and the next one is refused.
+pub const TEXT: usize = 41024;
 
 // Prints the nets of a desk as they are laid out.
 fn print_laid(
@@ -80,4 +85,13 @@ pub fn list_page(text: &[u8], prune: u32, separate: u32, out: &mut [u8]) -> usiz
         return listing::write_refused(out, refusal[0], refusal[1]);
     }
     print_desk(&desk, prune, separate, out)
+}
+
+// What program `wires` prints: the listing, pruned and separated, of a page text whose first n bytes were read into `start`; returns how many bytes.
+pub fn list_wires(start: &[u8], n: usize, out: &mut [u8]) -> usize
+    requires { ⌜ (length (now start) ≡ TEXT) × First n (now start) × (ROOM ≤ length (now out)) ⌝ }
+    ensures { λ r. ⌜ Prints (take n (now (start .entry))) (now (out .entry)) (now (out .exit)) r ⌝ }
+    ensures { λ r. ⌜ First r (now (out .exit)) ⌝ }
+{
+    list_page(&start[..n], 1, 1, out)
 }
