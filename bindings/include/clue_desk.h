@@ -124,7 +124,13 @@ uint32_t search(const uint32_t *desk, size_t desk_len, uint32_t prune, int32_t x
  *   x, y, kinds   the vertices: place, and 'R' root start, 'B' branch start, 'D' dummy, 'N' normal, 'E' end, 'C' end on a corner,
  *                 'L' end on a line segment
  *   joins         a row for each junction: vertex, joining end vertex, 'C' or 'L', as they were made
- * Indices of vertices are those of x, y and kinds, so a net's own vertices begin at its first vertex. */
+ * Indices of vertices are those of x, y and kinds, so a net's own vertices begin at its first vertex.
+ *
+ * Of a net with number 0 each endpoint is the place of a start ('R', 'B') or of an 'E', separated or not. What number 0 does not say:
+ *   - After separation a branch ('C', 'L') may end beside the line that it joins, on nothing: one of the two moved, the other did not.
+ *   - Two nets may share a stretch, also after separation.
+ *   - Where no line is found the net gets a fallback wire, straight or with one corner, which may cross boxes. It is told by its
+ *     start, 'R', that is not followed by 'D'. */
 uint32_t layout(const uint32_t *desk, size_t desk_len, uint32_t prune, uint32_t separate, uint32_t *nets, size_t nets_len, int32_t *x, size_t x_len, int32_t *y, size_t y_len, uint8_t *kinds, size_t kinds_len, uint32_t *joins, size_t joins_len);
 
 #ifdef __cplusplus

@@ -13,6 +13,14 @@ pub struct Page<'a> {
 }
 
 /// A net of a laid-out page. A refused one has no vertex and no junction.
+///
+/// Of a routed one each endpoint is the place of a start or of an end without junction, separated
+/// or not. What routed does not say:
+/// - After separation a branch, whose end has a junction, may end beside the line that it joins,
+///   on nothing: one of the two moved, the other did not.
+/// - Two nets may share a stretch, also after separation.
+/// - Where no line is found the net gets a fallback wire, straight or with one corner, which may
+///   cross boxes. It is told by its start, a `RootStart`, that no `Dummy` follows.
 #[derive(Clone, Copy)]
 pub struct Net<'a> {
     id: u32,

@@ -107,7 +107,8 @@ impl Router {
     }
 
     /// All nets of a desk on its graph, pruned or not, one after another; then their wires
-    /// separated or not. A net that is refused is a net of the page.
+    /// separated or not. A net that is refused is a net of the page. What holds of a routed one,
+    /// and what does not: see [`Net`](crate::Net).
     ///
     /// # Errors
     ///
