@@ -6,7 +6,7 @@ use oracle::page::Page;
 use oracle::page_list::{self, Detail};
 use oracle::page_text;
 use oracle::pages::{self, Kind};
-use oracle::{call_list, compare, digest, listing};
+use oracle::{call_list, compare, digest, findings, listing};
 use std::io::{self, Read, Write};
 use std::process::ExitCode;
 use std::{env, fs, panic};
@@ -20,6 +20,7 @@ const USAGE: &str = "usage: oracle COMMAND
   list FIRST COUNT [listing|wires|graphs]          generated pages with their answers
   digest FIRST COUNT                               a digest of all answers on generated pages
   compare PROGRAM FIRST COUNT                      what PROGRAM prints for generated pages, beside `wires`
+  findings FIRST COUNT                             counts of unexpected wires on realistic pages
   make FOLDER                                      write the fixed lists
   check FOLDER                                     make them again and compare";
 
@@ -70,6 +71,10 @@ fn run(arguments: &[&str], switches: &[&str]) -> Result<Vec<u8>, String> {
             Ok(digest.to_string().into_bytes())
         }
         ["compare", program, first, count] => compare_with(program, first, count),
+        ["findings", first, count] => {
+            let findings = findings::findings(number(first)? as u64, number(count)? as u64);
+            Ok(findings.to_string().into_bytes())
+        }
         ["make", folder] => make(folder),
         ["check", folder] => check(folder),
         _ => Err(USAGE.into()),
