@@ -24,10 +24,10 @@ fn calls() {
 #[test]
 fn pages() {
     let done = replay::Pages {
-        pages: 657,
+        pages: 662,
         refused: 148,
-        listings: 1_369,
-        searches: 2_302,
+        listings: 1_389,
+        searches: 2_342,
     };
     assert_eq!(replay::pages(&list("vectors/data/pages.txt")), done);
 }

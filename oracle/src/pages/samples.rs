@@ -1,4 +1,5 @@
-//! Document 01's own pages, and pages for rules that generated ones hardly meet.
+//! Document 01's own pages, pages for rules that generated ones hardly meet, and small pages whose
+//! wires a reader may not expect.
 
 use super::UNIT;
 use crate::desk::{Lists, Place};
@@ -16,9 +17,7 @@ type End = (i64, i64, i64);
 
 /// The pages with their names.
 pub fn samples() -> Vec<(String, Vec<u8>)> {
-    let document_01 = DOCUMENT_01
-        .iter()
-        .map(|&(name, text)| (name.to_owned(), text.as_bytes().to_vec()));
+    let stored = |&(name, text): &(&str, &str)| (name.to_owned(), text.as_bytes().to_vec());
     let written = |name: &str, lists: Lists| (name.to_owned(), page_text::write(&lists).into());
     let rare = [
         written("corridor-order", corridor_order()),
@@ -31,7 +30,11 @@ pub fn samples() -> Vec<(String, Vec<u8>)> {
         written("start-stays-turned", turned(start_stays())),
         written("endpoint-pruned", endpoint_pruned()),
     ];
-    document_01.chain(rare).collect()
+    let document_01 = DOCUMENT_01.iter().map(stored);
+    document_01
+        .chain(rare)
+        .chain(FINDINGS.iter().map(stored))
+        .collect()
 }
 
 const DOCUMENT_01: [(&str, &str); 8] = [
@@ -61,6 +64,35 @@ const DOCUMENT_01: [(&str, &str); 8] = [
     (
         "one-step-before-the-padded-edge",
         "box\t1\t25600\t0\t25600\t0\nnet\t1\nend\t1\t0\t0\t0\nend\t1\t23039\t0\t0\n",
+    ),
+];
+
+/// The pages of docs/DIFFERENCES.md's findings; no line of them can be left out.
+const FINDINGS: [(&str, &str); 5] = [
+    (
+        "branch-left-behind",
+        "box\t1\t3840\t2560\t3840\t2560\nport\t1\t0\t1280\t1\n\
+         net\t1\nend\t1\t0\t0\t0\nend\t1\t1280\t7680\t0\nend\t1\t3840\t2560\t0\n",
+    ),
+    (
+        "found-branch-left-behind",
+        "net\t1\nend\t1\t0\t0\t0\nend\t1\t3840\t1280\t0\nend\t1\t640\t2560\t0\n\
+         net\t2\nend\t2\t1280\t-1280\t0\nend\t2\t0\t640\t0\n",
+    ),
+    (
+        "nets-share-a-stretch",
+        "net\t1\nend\t1\t0\t0\t0\nend\t1\t2560\t0\t0\n\
+         net\t2\nend\t2\t1280\t0\t0\nend\t2\t3840\t0\t0\n",
+    ),
+    (
+        "nets-share-a-stretch-only-after",
+        "net\t1\nend\t1\t-1280\t0\t0\nend\t1\t0\t-1280\t0\n\
+         net\t2\nend\t2\t1280\t0\t0\nend\t2\t0\t1280\t0\n",
+    ),
+    (
+        "fallback-through-a-box",
+        "box\t1\t0\t0\t2560\t2560\nport\t1\t1280\t0\t4\n\
+         net\t1\nend\t1\t1280\t0\t1\nend\t1\t1280\t5120\t0\n",
     ),
 ];
 
