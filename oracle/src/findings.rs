@@ -40,18 +40,12 @@ impl fmt::Display for Findings {
     }
 }
 
-/// Takes the realistic pages of `count` seeds, pruned, before separation and after it.
+/// Takes the realistic pages of `count` seeds.
 pub fn findings(first: u64, count: u64) -> Findings {
     let mut findings = Findings::default();
     for seed in first..first + count {
         let text = pages::page(Kind::Realistic, seed);
-        let lists = page_text::read(&text).expect("a realistic page is read");
-        let layouts = (wires_of_nets(&lists, false), wires_of_nets(&lists, true));
-        findings.count("pages", true);
-        match layouts {
-            (Ok(before), Ok(after)) => findings.take(&lists, &before, &after),
-            _ => findings.count("pages crowded", true),
-        }
+        findings.take_page(&page_text::read(&text).expect("a realistic page is read"));
     }
     findings
 }
@@ -74,6 +68,20 @@ fn wires(vertices: &[Vertex]) -> Vec<Wire> {
 }
 
 impl Findings {
+    /// Takes a page, pruned, before separation and after it.
+    pub fn take_page(&mut self, lists: &Lists) {
+        self.count("pages", true);
+        match (wires_of_nets(lists, false), wires_of_nets(lists, true)) {
+            (Ok(before), Ok(after)) => self.take(lists, &before, &after),
+            _ => self.count("pages crowded", true),
+        }
+    }
+
+    /// How often it was so.
+    pub fn get(&self, what: &str) -> u64 {
+        self.counts.get(what).copied().unwrap_or_default()
+    }
+
     fn take(&mut self, lists: &Lists, before: &[Vec<Wire>], after: &[Vec<Wire>]) {
         let layouts = [("before", before), ("after", after)];
         let [shared_before, shared_after] = layouts.map(|(when, nets)| {
