@@ -1,64 +1,83 @@
 //! A priority queue with one entry an item: a push replaces the item's priority, the greatest
 //! priority leaves first, and among equal ones the lowest item.
+//!
+//! It is an indexed heap, as in the published crate: an item is looked up once a push, and only
+//! indices move when the heap is put in order.
 
 use std::cmp::Ordering;
-use std::collections::HashMap;
+use std::collections::hash_map::{Entry, HashMap};
 use std::hash::{BuildHasher, Hash};
 
-/// A binary heap, with each item's place in it.
+/// Entries in slots, a binary heap of slots, and each slot's place in the heap.
 pub struct PriorityQueue<I, P, S> {
-    heap: Vec<(I, P)>,
-    places: HashMap<I, usize, S>,
+    slots: HashMap<I, usize, S>,
+    entries: Vec<(I, P)>,
+    heap: Vec<usize>,
+    places: Vec<usize>,
 }
 
 impl<I, P, S: Default> Default for PriorityQueue<I, P, S> {
     fn default() -> Self {
         Self {
+            slots: HashMap::default(),
+            entries: Vec::new(),
             heap: Vec::new(),
-            places: HashMap::default(),
+            places: Vec::new(),
         }
     }
 }
 
 impl<I: Copy + Ord + Hash, P: Copy + Ord, S: BuildHasher> PriorityQueue<I, P, S> {
     pub fn clear(&mut self) {
+        self.slots.clear();
+        self.entries.clear();
         self.heap.clear();
         self.places.clear();
     }
 
     pub fn push(&mut self, item: I, priority: P) {
-        let place = match self.places.get(&item) {
-            Some(&place) => place,
-            None => self.heap.len(),
-        };
-        if place == self.heap.len() {
-            self.heap.push((item, priority));
+        match self.slots.entry(item) {
+            Entry::Occupied(known) => {
+                let slot = *known.get();
+                self.entries[slot].1 = priority;
+                let place = self.rise(self.places[slot], slot);
+                self.sink(place, slot);
+            }
+            Entry::Vacant(unknown) => {
+                let slot = self.entries.len();
+                unknown.insert(slot);
+                self.entries.push((item, priority));
+                self.heap.push(slot);
+                self.places.push(slot);
+                self.rise(slot, slot);
+            }
         }
-        self.put(place, (item, priority));
-        let place = self.rise(place);
-        self.sink(place);
     }
 
     pub fn pop(&mut self) -> Option<(I, P)> {
+        let first = *self.heap.first()?;
         let last = self.heap.pop()?;
-        let Some(&first) = self.heap.first() else {
-            self.places.remove(&last.0);
-            return Some(last);
-        };
-        self.places.remove(&first.0);
-        self.put(0, last);
-        self.sink(0);
-        Some(first)
+        if !self.heap.is_empty() {
+            self.sink(0, last);
+        }
+        Some(self.take(first))
     }
 
-    fn put(&mut self, place: usize, entry: (I, P)) {
-        self.heap[place] = entry;
-        self.places.insert(entry.0, place);
+    /// Takes the entry out of a slot that is in the heap no more; the last entry moves there.
+    fn take(&mut self, slot: usize) -> (I, P) {
+        let entry = self.entries.swap_remove(slot);
+        self.places.swap_remove(slot);
+        self.slots.remove(&entry.0);
+        if let Some((moved, _)) = self.entries.get(slot) {
+            self.heap[self.places[slot]] = slot;
+            *self.slots.get_mut(moved).expect("an entry has a slot") = slot;
+        }
+        entry
     }
 
-    /// Whether the entry at one place leaves before that at the other.
+    /// Whether the entry in one slot leaves before that in the other.
     fn before(&self, a: usize, b: usize) -> bool {
-        let ((item_a, priority_a), (item_b, priority_b)) = (self.heap[a], self.heap[b]);
+        let ((item_a, priority_a), (item_b, priority_b)) = (self.entries[a], self.entries[b]);
         let by_item = if cfg!(feature = "highest_index_first") {
             item_b.cmp(&item_a)
         } else {
@@ -67,38 +86,45 @@ impl<I: Copy + Ord + Hash, P: Copy + Ord, S: BuildHasher> PriorityQueue<I, P, S>
         priority_b.cmp(&priority_a).then(by_item) == Ordering::Less
     }
 
-    fn swap(&mut self, a: usize, b: usize) {
-        let (entry_a, entry_b) = (self.heap[a], self.heap[b]);
-        self.put(a, entry_b);
-        self.put(b, entry_a);
+    fn put(&mut self, place: usize, slot: usize) {
+        self.heap[place] = slot;
+        self.places[slot] = place;
     }
 
-    fn rise(&mut self, mut place: usize) -> usize {
+    /// Puts a slot at a place that is free or its own, or above it, and says where.
+    fn rise(&mut self, mut place: usize, slot: usize) -> usize {
         while place > 0 {
             let parent = (place - 1) / 2;
-            if !self.before(place, parent) {
+            let above = self.heap[parent];
+            if !self.before(slot, above) {
                 break;
             }
-            self.swap(place, parent);
+            self.put(place, above);
             place = parent;
         }
+        self.put(place, slot);
         place
     }
 
-    fn sink(&mut self, mut place: usize) {
-        loop {
-            let children = [2 * place + 1, 2 * place + 2];
-            let mut first = place;
-            for child in children.into_iter().filter(|&c| c < self.heap.len()) {
-                if self.before(child, first) {
-                    first = child;
-                }
-            }
-            if first == place {
+    /// Puts a slot at a place that is free or its own, or below it.
+    fn sink(&mut self, mut place: usize, slot: usize) {
+        while let Some((child, below)) = self.first_child(place) {
+            if !self.before(below, slot) {
                 break;
             }
-            self.swap(place, first);
-            place = first;
+            self.put(place, below);
+            place = child;
+        }
+        self.put(place, slot);
+    }
+
+    /// The child of a place that leaves first, with its slot.
+    fn first_child(&self, place: usize) -> Option<(usize, usize)> {
+        let left = 2 * place + 1;
+        let slot = *self.heap.get(left)?;
+        match self.heap.get(left + 1) {
+            Some(&right) if self.before(right, slot) => Some((left + 1, right)),
+            _ => Some((left, slot)),
         }
     }
 }
