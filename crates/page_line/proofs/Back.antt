@@ -15,10 +15,12 @@ use Rattle.decimals.specs.Write.{digits, tabbed}
 use Rattle.decimals.proofs.Bools.{below}
 use Rattle.decimals.proofs.Digits.{plain-digits, value-digits}
 use Rattle.decimals.proofs.Clean.{clean, allClean, clean-append, clean-digits, clean-signed, clean-tabbed, digits-width, plain-signed, signed-width, split-part, split-tabbed, value-signed}
-use Rattle.page_line.specs.Fields.{Sort, ident, step, small, allPlain, values, idWord, stepWord, smallWord, word, rowOf}
+use Rattle.page_line.specs.Fields.{allPlain, values, idWord, stepWord, smallWord, word, rowOf}
 use Rattle.desk.specs.declared.Kind.{Kind}
 use Rattle.page_line.specs.Records.{Line, entry, name, sorts, kindOf, shape, recordOf, lineOf}
 use Rattle.page_line.specs.declared.Found.the-variants.{Of}
+use Rattle.page_line.specs.declared.Sort.{Sort}
+use Rattle.page_line.specs.declared.Sort.the-variants.{Ident, Step, Small}
 use Rattle.page_line.specs.Lines.{LINE, ended, linesOf, textLines}
 use Rattle.page_line.specs.Write.{text, texts, lineText}
 use Rattle.page_line.proofs.Shapes.{length-values}
@@ -34,30 +36,30 @@ word-number v h = value-digits v ∙ ap (λ (n : ℕ). BASE + n) (cap-of v h)
 
 pub word-text : (s : Sort) (v : ℕ) → v < BASE → word s (value (text s v)) ≡ v
 unfolding word text idWord stepWord smallWord
-word-text ident v h =
+word-text Ident v h =
     rw (word-number v h)
     (below 0 v (λ g. rw (lt-leb (BASE + v) BASE (omega arith), lt-leb (BASE + BASE) (BASE + v) (omega arith)) (omega arith))
     (λ g. rw (le-leb (BASE + v) BASE (omega arith)) (omega arith)))
-word-text step v h = rw (value-signed v h, le-ltb (v + BIAS) BIAS (omega arith), lt-ltb (v + BIAS) (BASE + BIAS) (omega arith)) (omega arith)
-word-text small v h = rw (word-number v h, le-ltb (BASE + v) BASE (omega arith), lt-ltb (BASE + v) (BASE + BASE) (omega arith)) (omega arith)
+word-text Step v h = rw (value-signed v h, le-ltb (v + BIAS) BIAS (omega arith), lt-ltb (v + BIAS) (BASE + BIAS) (omega arith)) (omega arith)
+word-text Small v h = rw (word-number v h, le-ltb (BASE + v) BASE (omega arith), lt-ltb (BASE + v) (BASE + BASE) (omega arith)) (omega arith)
 
 plain-text : (s : Sort) (v : ℕ) → plain (text s v) ≡ true
 unfolding text
-plain-text ident v = plain-digits v
-plain-text step v = plain-signed v
-plain-text small v = plain-digits v
+plain-text Ident v = plain-digits v
+plain-text Step v = plain-signed v
+plain-text Small v = plain-digits v
 
 clean-text : (k : ℕ) (s : Sort) (v : ℕ) → k < 45 → clean k (text s v) ≡ true
 unfolding text
-clean-text k ident v h = clean-digits k v h
-clean-text k step v h = clean-signed k v h
-clean-text k small v h = clean-digits k v h
+clean-text k Ident v h = clean-digits k v h
+clean-text k Step v h = clean-signed k v h
+clean-text k Small v h = clean-digits k v h
 
 width-text : (s : Sort) (v : ℕ) → v < BASE → length (text s v) ≤ 11
 unfolding text
-width-text ident v h = omega (arith, digits-width v h)
-width-text step v h = signed-width v h
-width-text small v h = omega (arith, digits-width v h)
+width-text Ident v h = omega (arith, digits-width v h)
+width-text Step v h = signed-width v h
+width-text Small v h = omega (arith, digits-width v h)
 
 -- ---- the fields of a row whose words fit 32 bits
 unfoldable pub allFit : List ℕ → Bool

@@ -1,4 +1,4 @@
--- Rows: the word of each field by its place, and the loop that fills a row, which is a copy of the row's words.
+-- Rows: the sort of each field by its place, and the loop that fills a row, which is a copy of the row's words.
 use mathlib.Core.Path.{_≡_, refl, sym, ap, _∙_}
 use mathlib.Core.List.{List, [], _∷_}
 use Prim.Native.Nat.{ℕ, zero, suc, _+_, _≤_, _<_}
@@ -8,8 +8,10 @@ use Rattle.decimals.specs.Write.{written}
 use Rattle.decimals.proofs.Written.{Copy, copy-on, copy-end, written-none}
 use Rattle.desk.specs.declared.Kind.{Kind}
 use Rattle.desk.specs.Book.{width}
-use Rattle.page_line.specs.Fields.{Sort, idWord, stepWord, smallWord, word, rowOf, wordAt}
-use Rattle.page_line.specs.Records.{ROW, sorts}
+use Rattle.page_line.specs.Fields.{rowSort, word, rowOf}
+use Rattle.page_line.specs.Records.{ROW, sorts, sortAt}
+use Rattle.page_line.specs.declared.Sort.{Sort}
+use Rattle.page_line.specs.declared.Sort.the-variants.{Small}
 
 pub sorts-width : (k : Kind) → length (sorts k) ≡ width k
 sorts-width Kind.Box = refl
@@ -23,58 +25,44 @@ sorts-few Kind.Port = omega arith
 sorts-few Kind.Net = omega arith
 sorts-few Kind.End = omega arith
 
--- ---- the word of the field at i
-pub word-first : (k : Kind) (i v : ℕ) → i ≡ 0 → idWord v ≡ wordAt (sorts k) i v
-unfolding wordAt word
-word-first Kind.Box i v e = rw e
-word-first Kind.Port i v e = rw e
-word-first Kind.Net i v e = rw e
-word-first Kind.End i v e = rw e
+-- ---- the sort of a kind's field at i, by the place of its first small number
+abbrev smallFrom : Kind → ℕ
+smallFrom Kind.Box = 5
+smallFrom Kind.Port = 3
+smallFrom Kind.Net = 1
+smallFrom Kind.End = 3
 
-pub word-middle : (k : Kind) (i v : ℕ) → i < length (sorts k) → (i ≡ 0 → ⊥) → i < 3 → stepWord v ≡ wordAt (sorts k) i v
-unfolding wordAt word
-word-middle k zero v h n l = absurd (n refl)
-word-middle Kind.Box (suc zero) v h n l = refl
-word-middle Kind.Port (suc zero) v h n l = refl
-word-middle Kind.Net (suc zero) v h n l = absurd (omega arith)
-word-middle Kind.End (suc zero) v h n l = refl
-word-middle Kind.Box (suc (suc zero)) v h n l = refl
-word-middle Kind.Port (suc (suc zero)) v h n l = refl
-word-middle Kind.Net (suc (suc zero)) v h n l = absurd (omega arith)
-word-middle Kind.End (suc (suc zero)) v h n l = refl
-word-middle k (suc (suc (suc i))) v h n l = absurd (omega arith)
+point : (i : ℕ) → i < 4 → rowSort 3 i ≡ sortAt Kind.Port i
+unfolding rowSort
+point zero h = refl
+point (suc zero) h = refl
+point (suc (suc zero)) h = refl
+point (suc (suc (suc zero))) h = refl
+point (suc (suc (suc (suc i)))) h = absurd (omega arith)
 
--- from the fourth on
-abbrev pub lastWord : Kind → ℕ → ℕ
-lastWord Kind.Box v = stepWord v
-lastWord Kind.Port v = smallWord v
-lastWord Kind.Net v = smallWord v
-lastWord Kind.End v = smallWord v
+sort-at : (k : Kind) (i : ℕ) → i < length (sorts k) → rowSort (smallFrom k) i ≡ sortAt k i
+unfolding rowSort
+sort-at Kind.Box zero h = refl
+sort-at Kind.Box (suc zero) h = refl
+sort-at Kind.Box (suc (suc zero)) h = refl
+sort-at Kind.Box (suc (suc (suc zero))) h = refl
+sort-at Kind.Box (suc (suc (suc (suc zero)))) h = refl
+sort-at Kind.Box (suc (suc (suc (suc (suc i))))) h = absurd (omega arith)
+sort-at Kind.Port i h = point i h
+sort-at Kind.Net zero h = refl
+sort-at Kind.Net (suc i) h = absurd (omega arith)
+sort-at Kind.End i h = point i h
 
-last : (k : Kind) (i v : ℕ) → i < length (sorts k) → 3 ≤ i → lastWord k v ≡ wordAt (sorts k) i v
-unfolding wordAt word
-last k zero v h l = absurd (omega arith)
-last k (suc zero) v h l = absurd (omega arith)
-last k (suc (suc zero)) v h l = absurd (omega arith)
-last Kind.Box (suc (suc (suc zero))) v h l = refl
-last Kind.Box (suc (suc (suc (suc zero)))) v h l = refl
-last Kind.Box (suc (suc (suc (suc (suc i))))) v h l = absurd (omega arith)
-last Kind.Port (suc (suc (suc zero))) v h l = refl
-last Kind.Port (suc (suc (suc (suc i)))) v h l = absurd (omega arith)
-last Kind.Net (suc (suc (suc i))) v h l = absurd (omega arith)
-last Kind.End (suc (suc (suc zero))) v h l = refl
-last Kind.End (suc (suc (suc (suc i)))) v h l = absurd (omega arith)
-
-pub word-last : (k j : Kind) (i v w : ℕ) → k ≡ j → i < length (sorts k) → 3 ≤ i → w ≡ lastWord j v → w ≡ wordAt (sorts k) i v
-word-last k j i v w e h l ew = ew ∙ ap (λ (x : Kind). lastWord x v) (sym e) ∙ last k i v h l
+pub sort-told : (k j : Kind) (i : ℕ) (s : Sort) → k ≡ j → i < length (sorts k) → s ≡ rowSort (smallFrom j) i → s ≡ sortAt k i
+sort-told k j i s e h es = es ∙ ap (λ (x : Kind). rowSort (smallFrom x) i) (sym e) ∙ sort-at k i h
 
 -- ---- the words of a row, and the loop that writes them
-row-at : (ss : List Sort) (vs : List ℕ) (i : ℕ) → length vs ≡ length ss → getD (rowOf ss vs) i 0 ≡ wordAt ss i (getD vs i 0)
-unfolding rowOf wordAt
-row-at [] vs i h = refl
-row-at (s ∷ ss) [] i h = absurd (omega arith)
-row-at (s ∷ ss) (v ∷ vs) zero h = refl
-row-at (s ∷ ss) (v ∷ vs) (suc i) h = row-at ss vs i (omega arith)
+row-at : (ss : List Sort) (vs : List ℕ) (i : ℕ) → length vs ≡ length ss → i < length ss → getD (rowOf ss vs) i 0 ≡ word (getD ss i Small) (getD vs i 0)
+unfolding rowOf
+row-at [] vs i h l = absurd (omega arith)
+row-at (s ∷ ss) [] i h l = absurd (omega arith)
+row-at (s ∷ ss) (v ∷ vs) zero h l = refl
+row-at (s ∷ ss) (v ∷ vs) (suc i) h l = row-at ss vs i (omega arith) (omega arith)
 
 pub row-length : (ss : List Sort) (vs : List ℕ) → length vs ≡ length ss → length (rowOf ss vs) ≡ length ss
 unfolding rowOf
@@ -92,12 +80,16 @@ module _ (k : Kind) (vs start : List ℕ) where
   fill-first e h = record { count = e; room = h; copy = record { most = omega arith; long = refl; whole = written-none start 0 (omega arith) } }
 
   module _ (row : List ℕ) (i : ℕ) (f : Filled k vs start row i) where
-    pub fill-on : (x : ℕ) → i < length vs → x ≡ wordAt (sorts k) i (getD vs i 0) → Filled k vs start (set row i x) (i + 1)
-    fill-on x h ex =
+    pub fill-inside : i < length vs → (i < ROW) × (i < length row)
+    fill-inside h = let n = sorts-few k in (omega (arith, f .count), omega (arith, f .count, f .room, f .copy .long))
+
+    pub fill-on : (s : Sort) (x : ℕ) → i < length vs → s ≡ sortAt k i → x ≡ word s (getD vs i 0) → Filled k vs start (set row i x) (i + 1)
+    fill-on s x h es ex =
         let l = row-length (sorts k) vs (f .count) in
         let n = sorts-few k in
         let z : 0 + i ≡ i = omega arith in
-        let e : x ≡ getD (rowOf (sorts k) vs) i 0 = ex ∙ sym (row-at (sorts k) vs i (f .count)) in
+        let e : x ≡ getD (rowOf (sorts k) vs) i 0 =
+        ex ∙ ap (λ (y : Sort). word y (getD vs i 0)) es ∙ sym (row-at (sorts k) vs i (f .count) (omega (arith, f .count))) in
         record { count = f .count; room = f .room; copy = rw e (rw z at (copy-on start row (rowOf (sorts k) vs) 0 i (f .copy) (omega (arith, f .count)) (omega (arith, f .room)))) }
 
     pub fill-end : length vs ≤ i → row ≡ written start 0 (rowOf (sorts k) vs)

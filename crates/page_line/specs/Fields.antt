@@ -1,11 +1,13 @@
 -- 01, 'Desk and page text': the fields of a line, plain decimals, and the words of the desk that they become.
-use Prim.Native.Nat.{ℕ, zero, suc, _+_, _-_}
+use Prim.Native.Nat.{ℕ, _+_, _-_}
 use mathlib.Core.List.{List, [], _∷_}
 use mathlib.Core.Bool.{Bool, true, cond, _&&_}
 use lib.ListN.{length}
-use lib.Dec.{leb, ltb}
+use lib.Dec.{eqb, leb, ltb}
 use Rattle.fixed.specs.Up.{BIAS}
 use Rattle.decimals.specs.Decimal.{BASE, plain, value}
+use Rattle.page_line.specs.declared.Sort.{Sort}
+use Rattle.page_line.specs.declared.Sort.the-variants.{Ident, Step, Small}
 
 unfoldable pub allPlain : List (List ℕ) → Bool
 allPlain [] = true
@@ -23,11 +25,9 @@ MOST = 12
 unfoldable pub countFrom : ℕ → List (List ℕ) → ℕ
 countFrom n fs = cond (allPlain fs && leb (n + length fs) MOST) (n + length fs) (MOST + 1)
 
--- a field is an id, a coordinate in steps, or a small number (directions, a mark)
-pub data Sort : Type 0 where
-  ident : Sort
-  step : Sort
-  small : Sort
+-- the sort of the field at i in a row of an id, coordinates, and small numbers from place m on
+unfoldable pub rowSort : ℕ → ℕ → Sort
+rowSort m i = cond (eqb i 0) Ident (cond (ltb i m) Step Small)
 
 -- a word that is out of range for a coordinate, directions and a mark; an id is out of range at 0
 abbrev pub OUT : ℕ
@@ -45,18 +45,12 @@ unfoldable pub smallWord : ℕ → ℕ
 smallWord v = cond (ltb v BASE) OUT (cond (ltb v (BASE + BASE)) (v - BASE) OUT)
 
 unfoldable pub word : Sort → ℕ → ℕ
-word ident v = idWord v
-word step v = stepWord v
-word small v = smallWord v
+word Ident v = idWord v
+word Step v = stepWord v
+word Small v = smallWord v
 
 -- values as a row of words
 unfoldable pub rowOf : List Sort → List ℕ → List ℕ
 rowOf [] vs = []
 rowOf (s ∷ ss) [] = []
 rowOf (s ∷ ss) (v ∷ vs) = word s v ∷ rowOf ss vs
-
--- a value as the word of the i-th field
-unfoldable pub wordAt : List Sort → ℕ → ℕ → ℕ
-wordAt [] i v = 0
-wordAt (s ∷ ss) zero v = word s v
-wordAt (s ∷ ss) (suc i) v = wordAt ss i v

@@ -3,14 +3,16 @@ use Prim.Native.Nat.{ℕ}
 use mathlib.Core.Path.{_≡_}
 use mathlib.Core.List.{List, [], _∷_}
 use mathlib.Core.Bool.{cond}
-use lib.ListN.{length}
+use lib.ListN.{length, getD}
 use lib.Dec.{eqb}
 use Rattle.decimals.specs.Bytes.{TAB, split, same}
 use Rattle.decimals.specs.Write.{written}
 use Rattle.desk.specs.declared.Kind.{Kind}
-use Rattle.page_line.specs.Fields.{Sort, ident, step, small, allPlain, values, rowOf}
+use Rattle.page_line.specs.Fields.{allPlain, values, rowOf}
 use Rattle.page_line.specs.declared.Found.{Found}
 use Rattle.page_line.specs.declared.Found.the-variants.{Of, Malformed}
+use Rattle.page_line.specs.declared.Sort.{Sort}
+use Rattle.page_line.specs.declared.Sort.the-variants.{Ident, Step, Small}
 
 -- the word of each kind, as bytes
 abbrev pub name : Kind → List ℕ
@@ -21,10 +23,14 @@ name Kind.End = 101 ∷ 110 ∷ 100 ∷ []
 
 -- the fields of each kind
 abbrev pub sorts : Kind → List Sort
-sorts Kind.Box = ident ∷ step ∷ step ∷ step ∷ step ∷ []
-sorts Kind.Port = ident ∷ step ∷ step ∷ small ∷ []
-sorts Kind.Net = ident ∷ []
-sorts Kind.End = ident ∷ step ∷ step ∷ small ∷ []
+sorts Kind.Box = Ident ∷ Step ∷ Step ∷ Step ∷ Step ∷ []
+sorts Kind.Port = Ident ∷ Step ∷ Step ∷ Small ∷ []
+sorts Kind.Net = Ident ∷ []
+sorts Kind.End = Ident ∷ Step ∷ Step ∷ Small ∷ []
+
+-- the sort of a kind's field at i, which is less than its field count
+abbrev pub sortAt : Kind → ℕ → Sort
+sortAt k i = getD (sorts k) i Small
 
 -- the most fields of a kind
 abbrev pub ROW : ℕ

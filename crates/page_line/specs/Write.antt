@@ -4,14 +4,15 @@ use mathlib.Core.List.{List, [], _∷_, _++_}
 use Rattle.decimals.specs.Bytes.{LF}
 use Rattle.decimals.specs.Write.{digits, signed, tabbed}
 use Rattle.desk.specs.declared.Kind.{Kind}
-use Rattle.page_line.specs.Fields.{Sort, ident, step, small}
 use Rattle.page_line.specs.Records.{name, sorts}
+use Rattle.page_line.specs.declared.Sort.{Sort}
+use Rattle.page_line.specs.declared.Sort.the-variants.{Ident, Step, Small}
 
 -- a word as a field
 unfoldable pub text : Sort → ℕ → List ℕ
-text ident v = digits v
-text step u = signed u
-text small v = digits v
+text Ident v = digits v
+text Step u = signed u
+text Small v = digits v
 
 unfoldable pub texts : List Sort → List ℕ → List (List ℕ)
 texts [] ws = []

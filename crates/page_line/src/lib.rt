@@ -4,8 +4,8 @@ ghost use Prim.Native.Nat.{_≤_, _<_};
 ghost use lib.ListN.{length, take, drop};
 ghost use Rattle.decimals.specs.Bytes.{TAB, split};
 ghost use Rattle.decimals.specs.Write.{written};
-ghost use Rattle.page_line.specs.Fields.{MOST, countFrom, idWord, rowOf, smallWord, stepWord, values, wordAt};
-ghost use Rattle.page_line.specs.Records.{ROW, Told, kindOf, lineOf, shape, sorts};
+ghost use Rattle.page_line.specs.Fields.{MOST, countFrom, idWord, rowOf, rowSort, smallWord, stepWord, values, word};
+ghost use Rattle.page_line.specs.Records.{ROW, Told, kindOf, lineOf, shape, sortAt, sorts};
 ghost use Rattle.page_line.specs.Lines.{lineAt};
 
 const BASE: u64 = decimals::BASE;
@@ -28,6 +28,13 @@ pub const LINE: usize = 64;
 pub enum Found {
     Of(desk::Kind),
     Malformed,
+}
+
+// What a field is: an id, a coordinate in steps, or a small number (directions, a mark).
+pub enum Sort {
+    Ident,
+    Step,
+    Small,
 }
 
 // The values of the fields of `s` from `from` on: how many there are, or MOST + 1.
@@ -93,22 +100,40 @@ fn small_word(v: u64) -> u32
     OUT
 }
 
-// The value of a kind's field at a place, as a word: an id, two coordinates, and then a box's two others or a small number.
-fn field_word(kind: desk::Kind, i: usize, v: u64) -> u32
-    requires { ⌜ i < length (sorts kind) ⌝ }
-    ensures { λ r. ⌜ r ≡ wordAt (sorts kind) i v ⌝ }
+// A value as the word of its field's sort.
+fn field_word(sort: Sort, v: u64) -> u32
+    ensures { λ r. ⌜ r ≡ word sort v ⌝ }
+{
+    match sort {
+        Sort::Ident => id_word(v),
+        Sort::Step => step_word(v),
+        Sort::Small => small_word(v),
+    }
+}
+
+// The sort of the field at a place of a row: an id, then coordinates, and small numbers from place `small` on.
+fn row_sort(small: usize, i: usize) -> Sort
+    ensures { λ r. ⌜ r ≡ rowSort small i ⌝ }
 {
     if i == 0 {
-        return id_word(v);
+        return Sort::Ident;
     }
-    if i < 3 {
-        return step_word(v);
+    if i < small {
+        return Sort::Step;
     }
+    Sort::Small
+}
+
+// The sort of a kind's field at a place.
+fn sort_of(kind: desk::Kind, i: usize) -> Sort
+    requires { ⌜ i < length (sorts kind) ⌝ }
+    ensures { λ r. ⌜ r ≡ sortAt kind i ⌝ }
+{
     match kind {
-        desk::Kind::Box => step_word(v),
-        desk::Kind::Port => small_word(v),
-        desk::Kind::Net => small_word(v),
-        desk::Kind::End => small_word(v),
+        desk::Kind::Box => row_sort(5, i),
+        desk::Kind::Port => row_sort(3, i),
+        desk::Kind::Net => row_sort(1, i),
+        desk::Kind::End => row_sort(3, i),
     }
 }
 
@@ -119,7 +144,7 @@ fn fill(kind: desk::Kind, vs: &[u64], row: &mut [u32])
 {
     let mut i = 0;
     while i < vs.len() {
-        row[i] = field_word(kind, i, vs[i]);
+        row[i] = field_word(sort_of(kind, i), vs[i]);
         i += 1;
     }
 }

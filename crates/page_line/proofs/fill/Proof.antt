@@ -12,8 +12,15 @@ Inv-loop kind vs row₀ i₀ row i = R.Filled kind vs row₀ row i
 abbrev μ-loop : tie.MeasureT-loop
 μ-loop kind vs row₀ i₀ row i = length vs - i
 
+-- the loop's turn, seen from the end of its body
+abbrev turn : tie.After-field-word Inv-loop μ-loop → tie.At-loop Inv-loop μ-loop
+turn c = c .before .before .before .before
+
 loop-holds : tie.Need-loop-holds Inv-loop μ-loop
 loop-holds c = R.fill-first _ _ _ (c .before .before .pre .0) (c .before .before .pre .1)
+
+sort-of-requires : tie.Need-sort-of-requires Inv-loop μ-loop
+sort-of-requires c κs = omega (arith, c .before .loop .inv .count)
 
 mul-field-word : tie.Need-mul-field-word Inv-loop μ-loop
 mul-field-word c = search needs
@@ -22,13 +29,13 @@ shared-slice-read-field-word : tie.Need-shared-slice-read-field-word Inv-loop μ
 shared-slice-read-field-word c = search needs
 
 field-word-requires : tie.Need-field-word-requires Inv-loop μ-loop
-field-word-requires c κs = omega (arith, c .before .before .loop .inv .count)
+field-word-requires c κs = search needs
 
 mul-row : tie.Need-mul-row Inv-loop μ-loop
-mul-row c = omega (arith, c .before .before .before .loop .inv .count, R.sorts-few (c .before .before .before .before .before .before .args .kind))
+mul-row c = omega (arith, R.fill-inside _ _ _ _ _ (turn c .loop .inv) (omega arith) .0)
 
 slice-write-row : tie.Need-slice-write-row Inv-loop μ-loop
-slice-write-row c = omega (arith, c .before .before .before .loop .inv .count, c .before .before .before .loop .inv .room, c .before .before .before .loop .inv .copy .long, R.sorts-few (c .before .before .before .before .before .before .args .kind))
+slice-write-row c = R.fill-inside _ _ _ _ _ (turn c .loop .inv) (omega arith) .1
 
 add-i : tie.Need-add-i Inv-loop μ-loop
 add-i c = search needs
@@ -37,7 +44,7 @@ loop-less : tie.Need-loop-less Inv-loop μ-loop
 loop-less c = search needs
 
 loop-again : tie.Need-loop-again Inv-loop μ-loop
-loop-again c = R.fill-on _ _ _ _ _ (c .before .before .before .loop .inv) _ (omega arith) (c .field-word .ensures)
+loop-again c = R.fill-on _ _ _ _ _ (turn c .loop .inv) _ _ (omega arith) (c .before .before .sort-of .ensures) (c .field-word .ensures)
 
 same-length : tie.Need-same-length Inv-loop μ-loop
 same-length c = omega (arith, c .before .loop .inv .copy .long)
@@ -52,6 +59,7 @@ fill-spec =
     Inv-loop
     μ-loop
     loop-holds
+    sort-of-requires
     mul-field-word
     shared-slice-read-field-word
     field-word-requires
