@@ -12,9 +12,10 @@ use Rattle.fixed.proofs.Bools.{and-left}
 use Rattle.rows.specs.Rows.{key, count}
 use Rattle.rows.proofs.Parts
 use Rattle.desk.specs.Sizes.{DESK, BLOCK, PORTS-AT, NETS-AT, ENDS-AT}
-use Rattle.desk.specs.Book.{Record, width, most, okRecord, addNumber, takeNumber}
+use Rattle.desk.specs.Book.{Record, width, most, fieldsNumber, addNumber, takeNumber}
 use Rattle.desk.specs.Desk.{Ready, block, area, listsOf, withBlock, withRow, emptied, taken, at0}
 use Rattle.desk.specs.declared.Kind.{Kind}
+use Rattle.desk.proofs.Fields.{answer-0}
 use Rattle.desk.proofs.Blocks.{room-of, room-0}
 use Rattle.desk.proofs.Decode.{counted-with, ready-emptied}
 use Rattle.page_line.specs.Records.{Line, entry, malformed}
@@ -24,7 +25,7 @@ use Rattle.page_text.specs.Reading.{takes}
 use Rattle.page_text.specs.Words.{leaves, onwardWords, feedWords, textWords, isLent, readWords, REFUSAL}
 use Rattle.page_text.specs.declared.Step.{Step}
 use Rattle.page_text.specs.declared.Step.the-variants.{Went, Bad}
-use Rattle.page_text.proofs.Turns.{After, after, bad-went, step-0, answer-0}
+use Rattle.page_text.proofs.Turns.{After, after, bad-went, step-0}
 use Rattle.page_text.proofs.Limits.{left-bad}
 
 behind : (l : List ℕ) (i : ℕ) → i < DESK → drop DESK (set l i 0) ≡ drop DESK l
@@ -43,7 +44,7 @@ module _ (k : Kind) (r : Record) (ws : List ℕ) (ready : Ready ws) (hw : length
   unfolding takeNumber
   has-room =
       room-0 k (block ws)
-      (room-of k (block ws) (key r) (addNumber k (listsOf (block ws)) (key r)) refl (answer-0 (okRecord k r) (addNumber k (listsOf (block ws)) (key r)) e .1))
+      (room-of k (block ws) (key r) (addNumber k (listsOf (block ws)) (key r)) refl (answer-0 true (fieldsNumber k r) (addNumber k (listsOf (block ws)) (key r)) e .2))
 
   rest-taken : drop DESK (leaves (entry k r) ws) ≡ drop DESK ws
   unfolding leaves at0 taken withBlock

@@ -9,6 +9,7 @@ ghost use Rattle.desk_search.specs.Query.{query};
 ghost use Rattle.desk_search.specs.Search.{outputs as line-of};
 ghost use Rattle.page_layout.specs.Drawing.{drawing};
 ghost use Rattle.desk_layout.specs.Layout.{choice};
+ghost use Rattle.clue_desk.specs.Calls.Outputs.{refused, lined, drawn};
 ghost use Rattle.clue_desk.specs.Calls.Call.{edit, read, search as search-call, layout as layout-call};
 
 // Reads a page text: 0, or 16 with the 1-based line and the inner number, or 1 if the desk or the refusal's words are lent too small.
@@ -16,7 +17,7 @@ ghost use Rattle.clue_desk.specs.Calls.Call.{edit, read, search as searc
 pub extern "C" fn read_text(desk: &mut [u32], text: &[u8], refusal: &mut [u32]) -> u32
     ensures { λ r. ⌜ r ≡ number (read (now (text .entry)) (now (refusal .entry))) (now (desk .entry)) ⌝ }
     ensures { λ _. ⌜ now (desk .exit) ≡ words (read (now (text .entry)) (now (refusal .entry))) (now (desk .entry)) ⌝ }
-    ensures { λ _. ⌜ now (refusal .exit) ≡ outputs (read (now (text .entry)) (now (refusal .entry))) (now (desk .entry)) .refusal ⌝ }
+    ensures { λ _. ⌜ refused (now (refusal .exit)) ≡ outputs (read (now (text .entry)) (now (refusal .entry))) (now (desk .entry)) ⌝ }
 {
     page_text::read_text(desk, text, refusal)
 }
@@ -85,7 +86,7 @@ pub extern "C" fn retire_end(desk: &mut [u32], at: u32) -> u32
     desk::retire_end(desk, at)
 }
 
-// Puts the top copy back and takes it off.
+// Undoes the latest change.
 #[no_mangle]
 pub extern "C" fn undo(desk: &mut [u32]) -> u32
     ensures { λ r. ⌜ r ≡ number (edit undo-call) (now (desk .entry)) ⌝ }
@@ -110,7 +111,7 @@ pub extern "C" fn search(
     dirs: &mut [u8],
 ) -> u32
     ensures { λ r. ⌜ r ≡ number (search-call (query prune (up x) (up y) (now (ex .entry)) (now (ey .entry))) (line-of (now (lx .entry)) (now (ly .entry)) (now (kinds .entry)) (now (dirs .entry)))) (now (desk .entry)) ⌝ }
-    ensures { λ _. ⌜ line-of (now (lx .exit)) (now (ly .exit)) (now (kinds .exit)) (now (dirs .exit)) ≡ outputs (search-call (query prune (up x) (up y) (now (ex .entry)) (now (ey .entry))) (line-of (now (lx .entry)) (now (ly .entry)) (now (kinds .entry)) (now (dirs .entry)))) (now (desk .entry)) .line ⌝ }
+    ensures { λ _. ⌜ lined (line-of (now (lx .exit)) (now (ly .exit)) (now (kinds .exit)) (now (dirs .exit))) ≡ outputs (search-call (query prune (up x) (up y) (now (ex .entry)) (now (ey .entry))) (line-of (now (lx .entry)) (now (ly .entry)) (now (kinds .entry)) (now (dirs .entry)))) (now (desk .entry)) ⌝ }
 {
     desk_search::search(desk, prune, x, y, ex, ey, lx, ly, kinds, dirs)
 }
@@ -130,7 +131,7 @@ pub extern "C" fn layout(
     joins: &mut [u32],
 ) -> u32
     ensures { λ r. ⌜ r ≡ number (layout-call (choice prune separate) (drawing (now (nets .entry)) (now (x .entry)) (now (y .entry)) (now (kinds .entry)) (now (joins .entry)))) (now (desk .entry)) ⌝ }
-    ensures { λ _. ⌜ drawing (now (nets .exit)) (now (x .exit)) (now (y .exit)) (now (kinds .exit)) (now (joins .exit)) ≡ outputs (layout-call (choice prune separate) (drawing (now (nets .entry)) (now (x .entry)) (now (y .entry)) (now (kinds .entry)) (now (joins .entry)))) (now (desk .entry)) .drawing ⌝ }
+    ensures { λ _. ⌜ drawn (drawing (now (nets .exit)) (now (x .exit)) (now (y .exit)) (now (kinds .exit)) (now (joins .exit))) ≡ outputs (layout-call (choice prune separate) (drawing (now (nets .entry)) (now (x .entry)) (now (y .entry)) (now (kinds .entry)) (now (joins .entry)))) (now (desk .entry)) ⌝ }
 {
     desk_layout::layout(desk, prune, separate, nets, x, y, kinds, joins)
 }

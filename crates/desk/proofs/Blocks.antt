@@ -1,19 +1,20 @@
 -- A block's areas: where they lie, and what a call on one of them has to know.
 use mathlib.Core.Path.{_≡_, refl, sym, ap, _∙_}
-use mathlib.Core.List.{List, _++_}
+use mathlib.Core.List.{List, [], _∷_, _++_}
 use mathlib.Core.Bool.{Bool, true, false, cond}
 use Prim.Native.Nat.{ℕ, zero, _+_, _-_, _*_, _≤_, _<_}
 use native.Mathlib.Nat.{mul-le-mul-right, zero-add}
 use native.Mathlib.Omega.{arith}
 use lib.ListN.{length, getD, take, drop, length-drop, length-map}
-use lib.Seq.{getD-take, getD-drop, length-take-le}
+use lib.Seq.{getD-take, getD-drop, length-take-le, take-take, drop-drop}
 use lib.Dec.{ltb}
-use borrow.Author.Tests.{eq-eqb, ltb-true}
-use Rattle.rows.specs.Rows.{part, withPart, key, keys, ids, count, isIn, place, putLast, takeOut}
-use Rattle.rows.proofs.Rows.{length-records, ids-are}
+use borrow.Author.Tests.{eq-eqb, ne-eqb, ltb-true}
+use Rattle.rows.specs.Rows.{part, withPart, key, keys, ids, count, isIn, place, putLast, takeOut, putIn, records}
+use Rattle.rows.proofs.Rows.{length-records, ids-are, record-split, row-in, take-drop}
 use Rattle.desk.specs.Sizes.{BLOCK}
-use Rattle.desk.specs.Book.{Record, Lists, width, most, okFields, okRecord, roomNumber, newNumber, knownNumber, addNumber, idNumber, placeNumber, retireNumber, spot, okName}
-use Rattle.desk.specs.Desk.{start, size, area, listOf, listsOf, Counted, withRow, withoutRow}
+use Rattle.desk.specs.Book.{Record, Lists, width, most, roomNumber, newNumber, knownNumber, addNumber, idNumber, placeNumber, retireNumber, spot}
+use Rattle.desk.specs.Desk.{start, size, area, listOf, listsOf, Counted, withRow, withoutRow, withRowAt, kindOf}
+use Rattle.desk.specs.Entries.{isHeld}
 use Rattle.desk.specs.declared.Kind.{Kind}
 
 -- ---- kinds
@@ -46,10 +47,6 @@ rows-in k n h = omega (arith, size-is k, mul-le-mul-right (width k) h)
 
 pub of-kind : {k e : Kind} (n : ℕ) → k ≡ e → n ≡ width k → n ≡ width e
 of-kind n p h = rw p at h
-
-pub ok-record : {k e : Kind} (row : List ℕ) (b : Bool) → k ≡ e → length row ≡ width k → b ≡ okFields e row → b ≡ okRecord k row
-unfolding okRecord
-ok-record {k} row b p h e = rw (eq-eqb (length row) (width k) h, p) e
 
 -- ---- an area as a part: k is its length as the loan says it
 module _ (k : Kind) (blk : List ℕ) (long : length blk ≡ BLOCK) where
@@ -128,6 +125,86 @@ module _ (k : Kind) (blk row : List ℕ) (cnt : Counted blk) (hw : length row �
       let q : n ≡ size k = omega arith in
       rw (e, lent k blk (cnt .long) a s n ea es en, hw, ea, q)
 
+-- ---- a row put in at a place
+module _ (k : Kind) (blk row : List ℕ) (cnt : Counted blk) (hw : length row ≡ width k) (room : roomNumber k (listOf k blk) ≡ 0)
+    (i : ℕ) (hi : i ≤ count (area k blk)) (a s n : ℕ) (ea : a ≡ start k) (es : s ≡ size k) (en : n ≡ a + s - a) where
+  pub can-insert : (i ≤ count (take n (drop a blk))) × (count (take n (drop a blk)) < 65536)
+      × (1 + (count (take n (drop a blk)) + 1) * length row ≤ length (take n (drop a blk)))
+  can-insert =
+      let r = room-0 k blk room in
+      rw (lent k blk (cnt .long) a s n ea es en, hw, area-long k blk (cnt .long))
+      (hi, omega (arith, few-most k), rows-in k (count (area k blk) + 1) (omega arith))
+
+  pub is-inserted : (ys : List ℕ) → ys ≡ putIn (length row) i row (take n (drop a blk))
+      → take a blk ++ (ys ++ drop n (drop a blk)) ≡ withRowAt k i row blk
+  unfolding withRowAt withPart
+  is-inserted ys e =
+      let q : n ≡ size k = omega arith in
+      rw (e, lent k blk (cnt .long) a s n ea es en, hw, ea, q)
+
+-- ---- row i of an area
+module _ (k : Kind) (blk : List ℕ) (cnt : Counted blk) (i : ℕ) (hi : i < count (area k blk)) where
+  pub row-here : getD (listOf k blk) i [] ≡ take (width k) (drop (1 + i * width k) (area k blk))
+  unfolding listOf
+  row-here = first (records (width k) (count (area k blk)) (area k blk)) i _ _ (record-split (width k) (count (area k blk)) (area k blk) i hi)
+    where
+      first : (rs : List Record) (i : ℕ) (r : Record) (qs : List Record) → drop i rs ≡ r ∷ qs → getD rs i [] ≡ r
+      first rs i r qs e = sym (ap (λ (t : List Record). getD t 0 []) (sym e) ∙ getD-drop i rs 0 [] ∙ ap (λ (j : ℕ). getD rs j []) (omega arith))
+
+  pub row-inside : start k + (1 + i * width k) + width k ≤ BLOCK
+  row-inside = omega (arith, row-in (width k) i (count (area k blk)) hi, rows-in k (count (area k blk)) (cnt .few k), within k)
+
+  pub row-words : getD (listOf k blk) i [] ≡ take (width k) (drop (start k + (1 + i * width k)) blk)
+  unfolding area part
+  row-words =
+      let w : ℕ = width k in
+      let j : ℕ = 1 + i * w in
+      let h : j + w ≤ size k = omega (arith, row-in w i (count (area k blk)) hi, rows-in k (count (area k blk)) (cnt .few k)) in
+      row-here
+      ∙ take-drop j w (take (size k) (drop (start k) blk))
+      ∙ ap (drop j) (take-take (j + w) (size k) (drop (start k) blk) h)
+      ∙ sym (take-drop j w (drop (start k) blk))
+      ∙ ap (take w) (drop-drop j (start k) blk)
+
+  pub key-here : (a w v : ℕ) → a ≡ start k → w ≡ width k → v ≡ getD blk (a + (1 + i * w)) 0 → v ≡ key (getD (listOf k blk) i [])
+  unfolding key
+  key-here a w v ea ew ev =
+      ev ∙ ap (λ (t : ℕ). getD blk (t + (1 + i * w)) 0) ea ∙ ap (λ (t : ℕ). getD blk (start k + (1 + i * t)) 0) ew
+      ∙ ap (λ (t : ℕ). getD blk t 0) (omega arith)
+      ∙ sym (getD-drop (start k + (1 + i * width k)) blk 0 0)
+      ∙ sym (getD-take (width k) (drop (start k + (1 + i * width k)) blk) 0 0 (wide-enough k))
+      ∙ ap (λ (t : Record). getD t 0 0) (sym row-words)
+
+  pub id-inside : (a w : ℕ) → a ≡ start k → w ≡ width k → a + (1 + i * w) < BLOCK
+  id-inside a w ea ew = rw (ea, ew) (omega (arith, row-inside, wide-enough k))
+
+-- ---- whether a record belongs to one
+pub of-area : {k e : Kind} (blk : List ℕ) (i : ℕ) → k ≡ e → i < count (area k blk) → i < count (area e blk)
+of-area blk i p h = rw p at h
+
+pub by-kind-held : {k e : Kind} (l : Lists) (i : ℕ) (r : Bool) → k ≡ e → r ≡ isHeld e l i → r ≡ isHeld k l i
+by-kind-held l i r p e = e ∙ rw p
+
+pub held-is : (os rs : List Record) (i id : ℕ) (r : Bool) → id ≡ key (getD os i []) → r ≡ isIn id (ids rs) → r ≡ isIn (key (getD os i [])) (ids rs)
+held-is os rs i id r e f = f ∙ ap (λ (t : ℕ). isIn t (ids rs)) e
+
+-- ---- the kind that an entry names
+pub kind-box : (n : ℕ) → n ≡ 0 → Kind.Box ≡ kindOf n
+unfolding kindOf
+kind-box n e = rw (eq-eqb n 0 e)
+
+pub kind-port : (n : ℕ) → (n ≡ 0 → ⊥) → n ≡ 1 → Kind.Port ≡ kindOf n
+unfolding kindOf
+kind-port n f e = rw (ne-eqb n 0 f, eq-eqb n 1 e)
+
+pub kind-net : (n : ℕ) → (n ≡ 0 → ⊥) → (n ≡ 1 → ⊥) → n ≡ 2 → Kind.Net ≡ kindOf n
+unfolding kindOf
+kind-net n f g e = rw (ne-eqb n 0 f, ne-eqb n 1 g, eq-eqb n 2 e)
+
+pub kind-end : (n : ℕ) → (n ≡ 0 → ⊥) → (n ≡ 1 → ⊥) → (n ≡ 2 → ⊥) → Kind.End ≡ kindOf n
+unfolding kindOf
+kind-end n f g h = rw (ne-eqb n 0 f, ne-eqb n 1 g, ne-eqb n 2 h)
+
 new : (b : Bool) (m : ℕ) → cond b 3 m ≡ 0 → m ≡ 0
 new true m e = absurd (omega arith)
 new false m e = e
@@ -162,9 +239,6 @@ by-kind-out l id r p e = e ∙ rw p
 
 pub by-kind-spot : {k e : Kind} (l : Lists) (id r : ℕ) → k ≡ e → r ≡ spot e l id → r ≡ spot k l id
 by-kind-spot l id r p e = e ∙ rw p
-
-pub by-kind-name : {k e : Kind} (id : ℕ) (r : Bool) → k ≡ e → r ≡ okName e id → r ≡ okName k id
-by-kind-name id r p e = e ∙ rw p
 
 -- ---- a place, and a row out
 module _ (k : Kind) (blk : List ℕ) (cnt : Counted blk) (a s j : ℕ) (ea : a ≡ start k) (es : s ≡ size k) (ej : j ≡ a + s - a) (w : ℕ) (ew : w ≡ width k) where

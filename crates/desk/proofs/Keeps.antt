@@ -54,7 +54,7 @@ or-r : (a b : Bool) → a || b ≡ false → b ≡ false
 or-r true b e = absurd (true≢false e)
 or-r false b e = e
 
-or-2 : (a b : Bool) → b ≡ true → a || b ≡ true
+pub or-2 : (a b : Bool) → b ≡ true → a || b ≡ true
 or-2 true b e = refl
 or-2 false b e = e
 

@@ -1,7 +1,11 @@
+pub mod Fields
 pub mod Blocks
+pub mod Keeps
+pub mod Entries
 pub mod Decode
-pub mod Stamps
+pub mod Taken
 pub mod Valid
 pub mod Whole
-pub mod Keeps
-pub mod Demand
+pub mod Changes
+pub mod Longer
+pub mod Builds

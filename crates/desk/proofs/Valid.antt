@@ -1,37 +1,27 @@
--- Validity of any words: a row by the table of stamps, and the turns of the scans over a list's rows and over the desk's blocks.
+-- Validity of any words: a row, the turns of the scans over a list's rows and over the desk's undo entries.
 use mathlib.Core.Path.{_≡_, refl, sym, ap, _∙_}
-use mathlib.Core.List.{List, [], _∷_, map}
+use mathlib.Core.List.{List, _∷_, map}
 use mathlib.Core.Bool.{Bool, true, false, not, _&&_}
-use Prim.Native.Nat.{ℕ, zero, suc, _+_, _-_, _*_, _≤_, _<_}
+use Prim.Native.Nat.{ℕ, suc, _+_, _-_, _*_, _≤_, _<_}
 use native.Mathlib.Numerals.{add-one}
 use native.Mathlib.Omega.{arith}
-use lib.ListN.{length, getD, take, drop, set, length-drop, length-map, drop-of-length-le}
-use lib.Seq.{drop-drop, length-take-le}
-use lib.Dec.{leb, eqb}
-use borrow.Author.Tests.{le-leb, lt-leb, leb-true, not-true, not-false}
+use lib.ListN.{length, getD, take, drop, length-drop, length-map, drop-of-length-le}
+use lib.Seq.{take-all, take-take, length-take-le}
+use lib.Dec.{leb}
+use borrow.Author.Tests.{le-leb, lt-leb, not-true, not-false}
 use Rattle.fixed.proofs.Bools.{and-left, and-right}
-use Rattle.rows.specs.Rows.{rows, records, key, ids, keys, count, scan}
+use Rattle.rows.specs.Rows.{rows, records, key, ids, keys, isIn, count, scan}
 use Rattle.rows.proofs.Rows
-use Rattle.desk.specs.Sizes.{IDS, COPIES, BLOCK, NEXT}
-use Rattle.desk.specs.Book.{Record, Lists, width, most, field, okId, okRecord, own, belongs, okOwners, okMembers, okLists, okCopy, valid}
-use Rattle.desk.specs.Desk.{start, size, area, listOf, listsOf, block, bookOf}
-use Rattle.desk.specs.Stamps.{TABLE, Fresh, Stamped}
+use Rattle.desk.specs.Sizes.{COPIES, BLOCK, NEXT, ENTRY, PILE, DESK}
+use Rattle.desk.specs.Book.{Record, Lists, width, most, okRecord, own, belongs, okOwners, okMembers, okLists, okCopy, valid}
+use Rattle.desk.specs.Entries.{Entry, before, copies}
+use Rattle.desk.specs.Desk.{start, size, area, listOf, listsOf, listed, block, entryOf, entriesOf, blockBefore, latest, unlaid, bookOf}
 use Rattle.desk.specs.declared.Kind.{Kind}
 use Rattle.desk.proofs.Blocks
-use Rattle.desk.proofs.Decode.{book-rows}
-use Rattle.desk.proofs.Stamps
-
--- ---- an id in range has a place in the table
-in-table : (v : ℕ) → okId v ≡ true → v < TABLE
-unfolding okId
-in-table v e = omega (arith, leb-true v IDS (and-right (leb 1 v) (leb v IDS) e))
-
-ok-key : (k : Kind) (r : Record) → okRecord k r ≡ true → key r < TABLE
-unfolding okRecord key
-ok-key Kind.Box r e = in-table (field 0 r) (and-left _ _ (and-left _ _ (and-right (eqb (length r) (width Kind.Box)) _ e)))
-ok-key Kind.Port r e = in-table (field 0 r) (and-left _ _ (and-left _ _ (and-right (eqb (length r) (width Kind.Port)) _ e)))
-ok-key Kind.Net r e = in-table (field 0 r) (and-right (eqb (length r) (width Kind.Net)) _ e)
-ok-key Kind.End r e = in-table (field 0 r) (and-left _ _ (and-left _ _ (and-right (eqb (length r) (width Kind.End)) _ e)))
+use Rattle.desk.proofs.Keeps
+use Rattle.desk.proofs.Entries
+use Rattle.desk.proofs.Decode
+use Rattle.desk.proofs.Decode.{before-block, entries-unlaid}
 
 -- ---- a row: w is its width as the code has it, m the length of the part that was lent
 module _ (k : Kind) (xs : List ℕ) (w i m : ℕ) (ew : w ≡ width k) (em : m ≡ 1 + i * w + w - (1 + i * w)) where
@@ -55,73 +45,21 @@ module _ (k : Kind) (xs : List ℕ) (w i m : ℕ) (ew : w ≡ width k) (em : m �
     unfolding own
     own-bad e rs = rw (← row-ok, not-true g e)
 
-    pub member-bad : not g ≡ true → (os rs : List Record) → false ≡ belongs k os row rs
-    unfolding belongs
-    member-bad e os rs = rw (← row-ok, not-true g e)
+    pub member-bad : not g ≡ true → (is : List ℕ) (rs : List Record) → false ≡ listed k is row rs
+    unfolding listed
+    member-bad e is rs = rw (← row-ok, not-true g e)
 
     module _ (e : not g ≡ false) where
-      pub id-in : getD xs (1 + i * w) 0 < TABLE
-      id-in = rw (row-key) at (ok-key k row (sym row-ok ∙ not-false g e))
-
-      pub own-fits : (n s : ℕ) (t : List ℕ) → Stamped s (drop (i + 1) (keys (width k) n xs)) t → (r : Bool) → r ≡ not (eqb (getD t (getD xs (1 + i * w) 0) 0) s)
-          → r ≡ own k row (drop (i + 1) (records (width k) n xs))
+      pub own-fits : (n : ℕ) (is : List ℕ) (r : Bool) → is ≡ keys (width k) n xs → r ≡ isIn (getD xs (1 + i * w) 0) (drop (i + 1) is)
+          → not r ≡ own k row (drop (i + 1) (records (width k) n xs))
       unfolding own
-      own-fits n s t st r er =
-          er ∙ ap not (st .has (getD xs (1 + i * w) 0)) ∙ rw (← row-ok, not-false g e, row-key, Rows.ids-from (width k) n xs (i + 1))
+      own-fits n is r ei er =
+          ap not (er ∙ ap (λ (t : List ℕ). isIn (getD xs (1 + i * w) 0) (drop (i + 1) t)) ei)
+          ∙ rw (← row-ok, not-false g e, row-key, Rows.ids-from (width k) n xs (i + 1))
 
-      pub own-stamped : (n s : ℕ) (t u : List ℕ) → i < n → Stamped s (drop (i + 1) (keys (width k) n xs)) t → u ≡ set t (getD xs (1 + i * w) 0) s
-          → Stamped s (drop i (keys (width k) n xs)) u
-      own-stamped n s t u h st eu =
-          let split : drop i (keys (width k) n xs) ≡ getD xs (1 + i * w) 0 ∷ drop (i + 1) (keys (width k) n xs) =
-          Rows.keys-split (width k) n xs i h (Blocks.wide-enough k) ∙ ap (λ (x : ℕ). getD xs (1 + i * x) 0 ∷ drop (i + 1) (keys (width k) n xs)) (sym ew) in
-          rw (eu, split) (Stamps.one s (getD xs (1 + i * w) 0) (drop (i + 1) (keys (width k) n xs)) t id-in st)
-
-      pub member-fits : (s v : ℕ) (t : List ℕ) → v ≡ getD xs (1 + i * w) 0 → (os rs : List Record) → Stamped s (ids os) t
-          → eqb (getD t v 0) s ≡ belongs k os row rs
-      unfolding belongs
-      member-fits s v t ev os rs st = st .has v ∙ rw (← row-ok, not-false g e, row-key, ev)
-
--- ---- the turns of a scan from the last row: t is the test, b what it gave at row i
-scan-back : (t : Record → List Record → Bool) (i : ℕ) (rs : List Record) → scan t (drop i rs) ≡ false → false ≡ scan t rs
-unfolding scan
-scan-back t zero rs e = sym e
-scan-back t (suc i) [] e = sym e
-scan-back t (suc i) (r ∷ rs) e = rw (← scan-back t i rs e) (sym (and-false (t r rs)))
-  where
-    and-false : (b : Bool) → b && false ≡ false
-    and-false true = refl
-    and-false false = refl
-
-pub rows-unstamped : (w n : ℕ) (xs : List ℕ) (s : ℕ) (t : List ℕ) → Fresh s t → Stamped s (drop n (keys w n xs)) t
-rows-unstamped w n xs s t f = Stamps.of-none s n (keys w n xs) t (omega (arith, Rows.length-keys w n xs)) f
-
-module _ (t : Record → List Record → Bool) (w n : ℕ) (xs : List ℕ) where
-  pub rows-none : scan t (drop n (records w n xs)) ≡ true
-  unfolding scan
-  rows-none =
-      let h : length (records w n xs) ≤ n = omega (arith, Rows.length-records w n xs) in
-      ap (scan t) (drop-of-length-le (records w n xs) h)
-
-  pub back-done : (i : ℕ) → i ≤ 0 → scan t (drop i (records w n xs)) ≡ true → true ≡ scan t (records w n xs)
-  back-done i h e = let z : i ≡ 0 = omega arith in sym (rw z at e)
-
-  module _ (i j : ℕ) (h : i < n) (ej : j ≡ i + 1) (later : scan t (drop j (records w n xs)) ≡ true) (b : Bool)
-      (is : b ≡ t (take w (drop (1 + i * w) xs)) (drop (i + 1) (records w n xs))) where
-    from : scan t (drop i (records w n xs)) ≡ b
-    unfolding scan
-    from =
-        ap (scan t) (Rows.record-split w n xs i h)
-        ∙ rw (← is, ← ej, later) (and-true b)
-      where
-        and-true : (b : Bool) → b && true ≡ b
-        and-true true = refl
-        and-true false = refl
-
-    pub back-fail : not b ≡ true → false ≡ scan t (records w n xs)
-    back-fail e = scan-back t i (records w n xs) (from ∙ not-true b e)
-
-    pub back-pass : not b ≡ false → scan t (drop i (records w n xs)) ≡ true
-    back-pass e = from ∙ not-false b e
+      pub member-fits : (is : List ℕ) (r : Bool) (rs : List Record) → r ≡ isIn (getD xs (1 + i * w) 0) is → r ≡ listed k is row rs
+      unfolding listed
+      member-fits is r rs er = er ∙ rw (← row-ok, not-false g e, row-key)
 
 -- ---- the turns of a scan from the first row: t is the test, b what it gave at row i
 module _ (t : Record → List Record → Bool) (w n : ℕ) (xs : List ℕ) (i : ℕ)
@@ -139,6 +77,30 @@ module _ (t : Record → List Record → Bool) (w n : ℕ) (xs : List ℕ) (i : 
 pub in-row : (k : Kind) (w i n l : ℕ) → w ≡ width k → i < n → 1 + n * width k ≤ l → (1 + i * w + w ≤ l) × (0 < w)
 in-row k w i n l e h m = rw e (omega (arith, Rows.row-in (width k) i n h), Blocks.wide-enough k)
 
+-- ---- ids that stand side by side
+pub ids-long : (k : Kind) (xs is : List ℕ) (n : ℕ) → is ≡ keys (width k) n xs → length is ≡ n
+ids-long k xs is n e = ap length e ∙ Rows.length-keys (width k) n xs
+
+-- the ids behind place j, as they are lent
+pub ids-rest : (j m : ℕ) (is : List ℕ) → m ≡ length is - j → take m (drop j is) ≡ drop j is
+ids-rest j m is e = take-all m (drop j is) (rw length-drop (omega arith))
+
+-- gathered: w is the width and n the count c as the code has them, ys the words that they were written to
+module _ (k : Kind) (xs : List ℕ) (w n c : ℕ) (ew : w ≡ width k) (en : n ≡ c) where
+  pub can-gather : c ≤ most k → 1 + c * width k ≤ length xs → (0 < w) × (1 + n * w ≤ length xs) × (n ≤ 256)
+  can-gather h l = rw (ew, en) (Blocks.wide-enough k, l, omega (arith, Blocks.few-most k))
+
+  module _ (ys : List ℕ) (e : take n ys ≡ keys w n xs) where
+    pub gathered : take n ys ≡ keys (width k) c xs
+    gathered = e ∙ rw (ew, en)
+
+    pub gathered-long : n ≡ length (take n ys)
+    gathered-long = sym (ap length e ∙ Rows.length-keys w n xs)
+
+pub listed-belong : (k : Kind) (os rs : List Record) (is : List ℕ) (r : Bool) → is ≡ ids os → r ≡ scan (listed k is) rs → r ≡ scan (belongs k os) rs
+unfolding listed belongs
+listed-belong k os rs is r ei er = er ∙ ap (λ (t : List ℕ). scan (listed k t) rs) ei
+
 -- ---- a list of a block: n is its count, m the limit, xs its area as it was lent
 module _ (k : Kind) (blk : List ℕ) (long : length blk ≡ BLOCK) (n m : ℕ) (en : n ≡ count (area k blk)) (em : m ≡ most k) where
   pub list-many : (t : Record → List Record → Bool) → m < n → false ≡ leb (length (listOf k blk)) (most k) && scan t (listOf k blk)
@@ -148,16 +110,16 @@ module _ (k : Kind) (blk : List ℕ) (long : length blk ≡ BLOCK) (n m : ℕ) (
     pub list-fits : 1 + n * width k ≤ length (take j (drop a blk))
     list-fits = rw (Blocks.lent k blk long a s j ea es ej, Blocks.area-long k blk long) (Blocks.rows-in k n (omega arith))
 
-    pub list-ids : keys (width k) n (take j (drop a blk)) ≡ ids (listOf k blk)
-    unfolding listOf
-    list-ids = rw (Blocks.lent k blk long a s j ea es ej, en) (sym (Rows.ids-are (width k) (count (area k blk)) (area k blk)))
-
     pub list-some : (t : Record → List Record → Bool) (b : Bool) → b ≡ scan t (records (width k) n (take j (drop a blk)))
         → b ≡ leb (length (listOf k blk)) (most k) && scan t (listOf k blk)
     unfolding listOf
     list-some t b e =
         rw (Rows.length-records (width k) (count (area k blk)) (area k blk), ← en, ← em, le-leb n m h)
         (e ∙ ap (λ (xs : List ℕ). scan t (records (width k) n xs)) (Blocks.lent k blk long a s j ea es ej))
+
+    pub members-some : (o : Kind) (os : List Record) → os ≡ listOf o blk → (b : Bool) → b ≡ scan (belongs k os) (records (width k) n (take j (drop a blk)))
+        → b ≡ leb (length (listOf k blk)) (most k) && scan (belongs k (listOf o blk)) (listOf k blk)
+    members-some o os eo b e = list-some (belongs k (listOf o blk)) b (e ∙ ap (λ (t : List Record). scan (belongs k t) (records (width k) n (take j (drop a blk)))) eo)
 
 -- ---- a block: the boxes with the ports, then the nets with the ends
 pub pair-bad : (b o m : Bool) → b ≡ o → not b ≡ true → false ≡ o && m
@@ -187,67 +149,122 @@ module _ (blk : List ℕ) (p : Bool) (ep : p ≡ okOwners Kind.Box (listOf Kind.
       → q ≡ okLists (listsOf blk)
   block-rest q h e = rw (lists-are, not-false p h) e
 
--- ---- the desk: refused for its depth, else by the scan of the lists now and the copies
-unfoldable pub copies : ℕ → List ℕ → List Lists
-copies d ws = map listsOf (rows BLOCK d (drop 1 ws))
+-- the owners' area as it was lent
+module _ (k : Kind) (blk : List ℕ) (long : length blk ≡ BLOCK) (a s j : ℕ) (ea : a ≡ start k) (es : s ≡ size k) (ej : j ≡ a + s - a) where
+  pub owners-fit : count (area k blk) ≤ most k → (count (take j (drop a blk)) ≤ most k) × (1 + count (take j (drop a blk)) * width k ≤ length (take j (drop a blk)))
+  owners-fit h = rw (Blocks.lent k blk long a s j ea es ej, Blocks.area-long k blk long) (h, Blocks.rows-in k (count (area k blk)) h)
 
-pub valid-copies : (ws : List ℕ) (d : ℕ) → d ≡ getD ws 0 0 → d ≤ COPIES → valid (bookOf ws) ≡ scan okCopy (copies (d + 1) ws)
-unfolding valid bookOf copies
-valid-copies ws d e h =
-    rw (← e, length-map (rows BLOCK d (drop NEXT ws)) listsOf, Rows.length-rows BLOCK d (drop NEXT ws), le-leb d COPIES h, add-one, book-rows d ws)
+  pub owners-are : records (width k) (count (take j (drop a blk))) (take j (drop a blk)) ≡ listOf k blk
+  unfolding listOf
+  owners-are = rw (Blocks.lent k blk long a s j ea es ej)
 
-pub deep : (ws : List ℕ) (d : ℕ) → d ≡ getD ws 0 0 → COPIES < d → false ≡ valid (bookOf ws)
-unfolding valid bookOf
-deep ws d e h = rw (← e, length-map (rows BLOCK d (drop NEXT ws)) listsOf, Rows.length-rows BLOCK d (drop NEXT ws), lt-leb d COPIES h)
+pub owners-few : (k : Kind) (blk : List ℕ) (b : Bool) → b ≡ okOwners k (listOf k blk) → not b ≡ false → count (area k blk) ≤ most k
+owners-few k blk b e h = omega (arith, Blocks.length-list k blk, Keeps.owners-few k (listOf k blk) (sym e ∙ not-false b h))
 
-copy-split : (n i : ℕ) (ws : List ℕ) → i < n
-    → drop i (copies n ws) ≡ listsOf (take BLOCK (drop (1 + i * BLOCK) ws)) ∷ drop (i + 1) (copies n ws)
-unfolding copies
-copy-split n i ws h = rw (add-one, Rows.drop-map, Rows.drop-map, Rows.rows-split BLOCK n i (drop 1 ws) h, drop-drop)
+-- ---- the desk: refused for its depth, for the lists now, or for an entry
+module _ (ws : List ℕ) (d : ℕ) (ed : d ≡ getD ws 0 0) where
+  length-entries : length (entriesOf ws) ≡ d
+  unfolding entriesOf
+  length-entries = rw (length-map (rows ENTRY (getD ws 0 0) (drop NEXT ws)) entryOf) (Rows.length-rows ENTRY (getD ws 0 0) (drop NEXT ws) ∙ sym ed)
 
-length-copies : (n : ℕ) (ws : List ℕ) → length (copies n ws) ≡ n
-unfolding copies
-length-copies n ws = rw length-map (Rows.length-rows BLOCK n (drop 1 ws))
+  pub length-pile : length (bookOf ws .pile) ≡ d
+  unfolding bookOf
+  length-pile = Entries.length-copies (entriesOf ws) (listsOf (block ws)) ∙ length-entries
 
-module _ (ws : List ℕ) (d : ℕ) (ed : d ≡ getD ws 0 0) (hd : d ≤ COPIES) (i : ℕ)
-    (so-far : scan okCopy (copies (d + 1) ws) ≡ scan okCopy (drop i (copies (d + 1) ws))) where
-  module _ (k : ℕ) (b : Bool) (h : i < d + 1) (ek : k ≡ BLOCK) (is : b ≡ okLists (listsOf (take k (drop (1 + i * BLOCK) ws)))) where
-    is′ : (ls : List Lists) → okCopy (listsOf (take BLOCK (drop (1 + i * BLOCK) ws))) ls ≡ b
-    unfolding okCopy
-    is′ ls = rw (is, ek)
+  pub deep : COPIES < d → false ≡ valid (bookOf ws)
+  unfolding valid
+  deep h = rw (length-pile, lt-leb d COPIES h)
 
-    pub copies-fail : not b ≡ true → false ≡ valid (bookOf ws)
-    copies-fail e =
-        Rows.fail okCopy (copies (d + 1) ws) _ i (copy-split (d + 1) i ws h) so-far (is′ _ ∙ not-true b e) ∙ sym (valid-copies ws d ed hd)
+  module _ (h : d ≤ COPIES) where
+    pub valid-is : valid (bookOf ws) ≡ okLists (listsOf (block ws)) && scan okCopy (copies (entriesOf ws) (listsOf (block ws)))
+    unfolding valid scan okCopy bookOf
+    valid-is = rw (length-pile, le-leb d COPIES h)
 
-    pub copies-pass : not b ≡ false → scan okCopy (copies (d + 1) ws) ≡ scan okCopy (drop (i + 1) (copies (d + 1) ws))
-    copies-pass e = Rows.pass okCopy (copies (d + 1) ws) _ i (copy-split (d + 1) i ws h) so-far (is′ _ ∙ not-false b e)
+    module _ (b : Bool) (eb : b ≡ okLists (listsOf (block ws))) where
+      pub block-fails : not b ≡ true → false ≡ valid (bookOf ws)
+      block-fails t = rw (valid-is, ← eb, not-true b t)
 
-  pub copies-done : d + 1 ≤ i → true ≡ valid (bookOf ws)
-  copies-done h = Rows.done okCopy (copies (d + 1) ws) i (rw (length-copies (d + 1) ws) h) so-far ∙ sym (valid-copies ws d ed hd)
+      pub entries-say : not b ≡ false → (pile blk : List ℕ) (n : ℕ) → n ≡ PILE → pile ≡ take n (drop NEXT ws) → blk ≡ block ws → (r : Bool)
+          → r ≡ scan okCopy (copies (map entryOf (rows ENTRY d pile)) (listsOf blk)) → r ≡ valid (bookOf ws)
+      unfolding entriesOf
+      entries-say t pile blk n en ep el r er =
+          let q : rows ENTRY d pile ≡ rows ENTRY (getD ws 0 0) (drop NEXT ws) =
+          ap (rows ENTRY d) (ep ∙ ap (λ (k : ℕ). take k (drop NEXT ws)) en)
+          ∙ Rows.rows-prefix ENTRY d (take PILE (drop NEXT ws)) (drop NEXT ws) (take-take (d * ENTRY) PILE (drop NEXT ws) (omega arith))
+          ∙ ap (λ (k : ℕ). rows ENTRY k (drop NEXT ws)) ed in
+          rw (valid-is, ← eb, not-false b t) (er ∙ rw (q, el))
+
+-- ---- the turns of the test of entries: es are all of them, l the lists now, blk the block after i of them
+unfoldable pub entriesIn : ℕ → List ℕ → List Entry
+entriesIn d pile = map entryOf (rows ENTRY d pile)
+
+pub entry-split : (d i : ℕ) (pile : List ℕ) → i < d → drop i (entriesIn d pile) ≡ entryOf (take ENTRY (drop (i * ENTRY) pile)) ∷ drop (i + 1) (entriesIn d pile)
+unfolding entriesIn
+entry-split d i pile h = rw (add-one, Rows.drop-map, Rows.drop-map, Rows.rows-split ENTRY d i pile h)
+
+module _ (d : ℕ) (pile : List ℕ) (i : ℕ) (all : Bool) (blk : List ℕ) (so-far : all ≡ scan okCopy (copies (drop i (entriesIn d pile)) (listsOf blk))) where
+  module _ (h : i < d) (n : ℕ) (en : n ≡ ENTRY) (b : Bool) (eb : b ≡ okLists (before (entryOf (take n (drop (i * ENTRY) pile))) (listsOf blk))) where
+    abbrev e : Entry
+    e = entryOf (take ENTRY (drop (i * ENTRY) pile))
+
+    here : all ≡ b && scan okCopy (copies (drop (i + 1) (entriesIn d pile)) (before e (listsOf blk)))
+    unfolding scan okCopy copies
+    here =
+        so-far ∙ ap (λ (es : List Entry). scan okCopy (copies es (listsOf blk))) (entry-split d i pile h)
+        ∙ ap (λ (t : Bool). t && scan okCopy (copies (drop (i + 1) (entriesIn d pile)) (before e (listsOf blk))))
+        (sym (eb ∙ ap (λ (m : ℕ). okLists (before (entryOf (take m (drop (i * ENTRY) pile))) (listsOf blk))) en))
+
+    pub entry-fails : not b ≡ true → false ≡ all
+    entry-fails t = sym (here ∙ ap (λ (c : Bool). c && scan okCopy (copies (drop (i + 1) (entriesIn d pile)) (before e (listsOf blk)))) (not-true b t))
+
+    module _ (t : not b ≡ false) (hb : length blk ≡ BLOCK) (ok : okLists (listsOf blk) ≡ true) (new : List ℕ)
+        (is : b ≡ true → new ≡ blockBefore (entryOf (take n (drop (i * ENTRY) pile))) blk) where
+      became : new ≡ blockBefore e blk
+      became = is (not-false b t) ∙ ap (λ (m : ℕ). blockBefore (entryOf (take m (drop (i * ENTRY) pile))) blk) en
+
+      kept : okLists (before e (listsOf blk)) ≡ true
+      kept = sym (eb ∙ ap (λ (m : ℕ). okLists (before (entryOf (take m (drop (i * ENTRY) pile))) (listsOf blk))) en) ∙ not-false b t
+
+      lists-now : listsOf new ≡ before e (listsOf blk)
+      lists-now = ap listsOf became ∙ before-block blk hb ok e kept .1
+
+      pub entry-long : length new ≡ BLOCK
+      entry-long = ap length became ∙ before-block blk hb ok e kept .0
+
+      pub entry-ok : okLists (listsOf new) ≡ true
+      entry-ok = ap okLists lists-now ∙ kept
+
+      pub entry-passes : all ≡ scan okCopy (copies (drop (i + 1) (entriesIn d pile)) (listsOf new))
+      entry-passes =
+          here ∙ ap (λ (c : Bool). c && scan okCopy (copies (drop (i + 1) (entriesIn d pile)) (before e (listsOf blk)))) (not-false b t)
+          ∙ ap (λ (m : Lists). scan okCopy (copies (drop (i + 1) (entriesIn d pile)) m)) (sym lists-now)
+
+  pub entries-done : d ≤ i → true ≡ all
+  unfolding scan copies entriesIn
+  entries-done h =
+      let l : length (entriesIn d pile) ≡ d = length-map (rows ENTRY d pile) entryOf ∙ Rows.length-rows ENTRY d pile in
+      sym (so-far ∙ ap (λ (es : List Entry). scan okCopy (copies es (listsOf blk))) (drop-of-length-le (entriesIn d pile) {i = i} (omega arith)))
+
+pub entries-start : (d : ℕ) (pile : List ℕ) (l : Lists) → scan okCopy (copies (map entryOf (rows ENTRY d pile)) l) ≡ scan okCopy (copies (drop 0 (entriesIn d pile)) l)
+unfolding entriesIn
+entries-start d pile l = refl
 
 -- ---- what validity says of the lists now
 pub head-ok : (ws : List ℕ) → valid (bookOf ws) ≡ true → okLists (listsOf (block ws)) ≡ true
 unfolding valid bookOf scan okCopy
 head-ok ws e = and-left _ _ (and-right (leb (length (bookOf ws .pile)) COPIES) _ e)
 
-module _ (blk : List ℕ) (ok : okLists (listsOf blk) ≡ true) where
-  owners-ok : okOwners Kind.Box (listOf Kind.Box blk) && okOwners Kind.Net (listOf Kind.Net blk) ≡ true
-  unfolding okLists listsOf
-  owners-ok = and-left _ (okMembers Kind.Port (listOf Kind.Box blk) (listOf Kind.Port blk) && okMembers Kind.End (listOf Kind.Net blk) (listOf Kind.End blk)) ok
+-- and of the latest entry
+pub latest-ok : (ws : List ℕ) → DESK ≤ length ws → valid (bookOf ws) ≡ true → (getD ws 0 0 ≡ 0 → ⊥) → okLists (before (entryOf (latest ws)) (listsOf (block ws))) ≡ true
+unfolding scan okCopy copies
+latest-ok ws h v z =
+    let d : ℕ = getD ws 0 0 - 1 in
+    let few : getD ws 0 0 ≤ COPIES = omega (arith, length-pile ws (getD ws 0 0) refl, Keeps.shallow (bookOf ws) v) in
+    let ed : getD ws 0 0 ≡ suc d = omega (arith, z) in
+    let s : okLists (listsOf (block ws)) && scan okCopy (copies (entriesOf ws) (listsOf (block ws))) ≡ true = sym (valid-is ws (getD ws 0 0) refl few) ∙ v in
+    let t : scan okCopy (copies (entryOf (latest ws) ∷ entriesOf (unlaid ws)) (listsOf (block ws))) ≡ true =
+    ap (λ (es : List Entry). scan okCopy (copies es (listsOf (block ws)))) (sym (entries-unlaid ws h d ed (omega (arith, few)))) ∙ and-right (okLists (listsOf (block ws))) _ s in
+    and-left _ (scan okCopy (copies (entriesOf (unlaid ws)) (before (entryOf (latest ws)) (listsOf (block ws))))) t
 
-  members-ok : okMembers Kind.Port (listOf Kind.Box blk) (listOf Kind.Port blk) && okMembers Kind.End (listOf Kind.Net blk) (listOf Kind.End blk) ≡ true
-  unfolding okLists listsOf
-  members-ok = and-right (okOwners Kind.Box (listOf Kind.Box blk) && okOwners Kind.Net (listOf Kind.Net blk)) _ ok
-
-  few : (k : Kind) (b : Bool) → leb (length (listOf k blk)) (most k) && b ≡ true → count (area k blk) ≤ most k
-  few k b e = omega (arith, Blocks.length-list k blk, leb-true (length (listOf k blk)) (most k) (and-left (leb (length (listOf k blk)) (most k)) b e))
-
-  pub few-all : (k : Kind) → count (area k blk) ≤ most k
-  unfolding okOwners okMembers
-  few-all Kind.Box = few Kind.Box _ (and-left (okOwners Kind.Box (listOf Kind.Box blk)) (okOwners Kind.Net (listOf Kind.Net blk)) owners-ok)
-  few-all Kind.Net = few Kind.Net _ (and-right (okOwners Kind.Box (listOf Kind.Box blk)) (okOwners Kind.Net (listOf Kind.Net blk)) owners-ok)
-  few-all Kind.Port =
-      few Kind.Port _ (and-left (okMembers Kind.Port (listOf Kind.Box blk) (listOf Kind.Port blk)) (okMembers Kind.End (listOf Kind.Net blk) (listOf Kind.End blk)) members-ok)
-  few-all Kind.End =
-      few Kind.End _ (and-right (okMembers Kind.Port (listOf Kind.Box blk) (listOf Kind.Port blk)) (okMembers Kind.End (listOf Kind.Net blk) (listOf Kind.End blk)) members-ok)
+pub few-all : (blk : List ℕ) → okLists (listsOf blk) ≡ true → (k : Kind) → count (area k blk) ≤ most k
+few-all blk ok k = Decode.few-all blk ok k

@@ -1,21 +1,24 @@
 -- The desk as a whole: what a call answers by the tests on its way, and what its words are then.
 use mathlib.Core.Path.{_≡_, refl, sym, ap, _∙_}
-use mathlib.Core.List.{List, [], _∷_, _++_}
+use mathlib.Core.List.{List, [], _∷_, _++_, append-nil}
 use mathlib.Core.Bool.{Bool, true, false, not, cond}
-use Prim.Native.Nat.{ℕ, _+_, _-_, _≤_, _<_, min}
+use Prim.Native.Nat.{ℕ, _+_, _-_, _*_, _≤_, _<_, min}
 use native.Mathlib.Omega.{arith}
-use lib.ListN.{length, getD, take, drop, set, length-map}
-use lib.Dec.{eqb}
+use lib.ListN.{length, getD, take, drop, set, drop-of-length-le}
+use lib.Seq
+use lib.Dec.{eqb, leb}
 use lib.IntN.{ℤ}
-use borrow.Author.Tests.{le-leb, lt-leb, eq-eqb, ne-eqb, not-true, not-false}
+use borrow.Author.Tests.{leb-true, le-leb, lt-leb, eq-eqb, ne-eqb, not-true, not-false}
 use Rattle.fixed.specs.Up.{up}
-use Rattle.rows.specs.Rows.{pasted, withPart, key, count}
+use Rattle.rows.specs.Rows.{pasted, part, withPart, key, count}
 use Rattle.rows.proofs.Rows
-use Rattle.desk.specs.Sizes.{COPIES, BLOCK, DESK, NEXT, PILE}
-use Rattle.desk.specs.Book.{Record, Lists, okRecord, addNumber, retireNumber, spot, roomNumber, answer, takeNumber, valid}
-use Rattle.desk.specs.Desk.{listOf, listsOf, bookOf, block, withBlock, withRow, taken, at0, sized, laid, undone, Counted, area}
+use Rattle.desk.specs.Sizes.{COPIES, BLOCK, DESK, NEXT, ENTRY, LATER}
+use Rattle.desk.specs.Book.{Record, Lists, width, fieldsNumber, addNumber, retireNumber, spot, roomNumber, answer, takeNumber, okLists, valid}
+use Rattle.desk.specs.Entries.{before}
+use Rattle.desk.specs.Desk.{Sound, listOf, listsOf, bookOf, block, withBlock, withRow, taken, withoutRow, start, tag, KINDS, entryOf, outWords, backWords, blockBefore, latest, at0, sized, laid, unlaid, Counted, area}
 use Rattle.desk.specs.declared.Kind.{Kind}
-use Rattle.desk.specs.Calls.{Call, number, words, boxRecord, pointRecord, netRecord}
+use Rattle.desk.specs.Calls.{Call, number, words, retired, boxRecord, pointRecord, netRecord}
+use Rattle.desk.proofs.Fields.{answer-f, answer-n}
 use Rattle.desk.proofs.Valid
 use Rattle.desk.proofs.Blocks
 use Rattle.desk.proofs.Decode
@@ -30,72 +33,100 @@ unfolding at0
 changed-at r after ws ws′ h e = rw h e
 
 -- ---- a record added without a copy
-module _ (k : Kind) (r : Record) (l : Lists) (b : Bool) (eb : b ≡ okRecord k r) where
-  pub take-2 : not b ≡ true → 2 ≡ takeNumber k r l
-  unfolding takeNumber answer
-  take-2 h = rw (← eb, not-true b h)
+module _ (k : Kind) (r : Record) (l : Lists) (f : ℕ) (ef : f ≡ fieldsNumber k r) where
+  pub take-f : (f ≡ 0 → ⊥) → f ≡ takeNumber k r l
+  unfolding takeNumber
+  take-f h = sym (ap (λ (m : ℕ). answer true m (addNumber k l (key r))) (sym ef) ∙ answer-f f (addNumber k l (key r)) h)
 
-  pub take-n : (n : ℕ) → not b ≡ false → n ≡ addNumber k l (getD r 0 0) → n ≡ takeNumber k r l
-  unfolding takeNumber answer key
-  take-n n h e = rw (← eb, not-false b h) e
+  pub take-n : (n : ℕ) → f ≡ 0 → n ≡ addNumber k l (getD r 0 0) → n ≡ takeNumber k r l
+  unfolding takeNumber key
+  take-n n h e = e ∙ sym (answer-n (fieldsNumber k r) (addNumber k l (key r)) (sym ef ∙ h))
 
 pub put-back : (k : Kind) (r : Record) (ws ys : List ℕ) → ys ≡ withRow k r (block ws) → take 1 ws ++ (ys ++ drop BLOCK (drop 1 ws)) ≡ taken k r ws
 unfolding taken withBlock withPart
 put-back k r ws ys e = rw e
 
--- ---- a copy laid and taken off
-module _ (ws l : List ℕ) (e : l ≡ pasted ws NEXT (drop 1 ws) PILE) where
-  pub laid-more : getD ws 0 0 < COPIES → set l 0 (getD ws 0 0 + 1) ≡ laid ws
+-- ---- an entry laid and taken off
+module _ (ws e m l : List ℕ) (he : length e ≡ ENTRY) (em : m ≡ pasted ws (NEXT + ENTRY) (drop NEXT ws) LATER) (el : l ≡ pasted m NEXT e (length e)) where
+  pub laid-more : getD ws 0 0 < COPIES → set l 0 (getD ws 0 0 + 1) ≡ laid e ws
   unfolding laid
   laid-more h =
-      let m : min (getD ws 0 0 + 1) COPIES ≡ getD ws 0 0 + 1 = omega arith in
-      rw (e, m)
+      let q : min (getD ws 0 0 + 1) COPIES ≡ getD ws 0 0 + 1 = omega arith in
+      rw (el, he, em, q)
 
-  pub laid-full : COPIES ≤ getD ws 0 0 → set l 0 COPIES ≡ laid ws
+  pub laid-full : COPIES ≤ getD ws 0 0 → set l 0 COPIES ≡ laid e ws
   unfolding laid
   laid-full h =
-      let m : min (getD ws 0 0 + 1) COPIES ≡ COPIES = omega arith in
-      rw (e, m)
+      let q : min (getD ws 0 0 + 1) COPIES ≡ COPIES = omega arith in
+      rw (el, he, em, q)
 
-pub took-off : (ws l : List ℕ) → l ≡ pasted ws 1 (drop NEXT ws) PILE → set l 0 (getD ws 0 0 - 1) ≡ undone ws
-unfolding undone
+pub took-off : (ws l : List ℕ) → l ≡ pasted ws NEXT (drop (NEXT + ENTRY) ws) LATER → set l 0 (getD ws 0 0 - 1) ≡ unlaid ws
+unfolding unlaid
 took-off ws l e = rw e
 
--- ---- the answers of a call on the desk: `after` are the words of a change
-module _ (ws after : List ℕ) where
-  both : (r n : ℕ) → r ≡ n → (r ≡ 0 → ⊥) → (r ≡ n) × (ws ≡ at0 n after ws)
-  unfolding at0
-  both r n e h = (e, rw (← e, ne-eqb r 0 h))
-
-  pub says-1 : (n : ℕ) → length ws < DESK → (1 ≡ sized ws n) × (ws ≡ at0 (sized ws n) after ws)
+-- ---- the desk's test
+module _ (ws : List ℕ) where
+  pub test-1 : length ws < DESK → 1 ≡ sized ws (answer (valid (bookOf ws)) 0 0)
   unfolding sized
-  says-1 n h = both 1 (sized ws n) (rw (lt-leb DESK (length ws) h)) (omega arith)
+  test-1 h = rw (lt-leb DESK (length ws) h)
 
-  module _ (h : DESK ≤ length ws) (v : Bool) (ev : v ≡ valid (bookOf ws)) (f : Bool) (n : ℕ) where
+  pub test-2 : DESK ≤ length ws → (v : Bool) → v ≡ valid (bookOf ws) → not v ≡ true → 2 ≡ sized ws (answer (valid (bookOf ws)) 0 0)
+  unfolding sized answer
+  test-2 h v e t = rw (le-leb DESK (length ws) h, ← e, not-true v t)
+
+  pub test-0 : DESK ≤ length ws → (v : Bool) → v ≡ valid (bookOf ws) → not v ≡ false → 0 ≡ sized ws (answer (valid (bookOf ws)) 0 0)
+  unfolding sized answer
+  test-0 h v e t = rw (le-leb DESK (length ws) h, ← e, not-false v t)
+
+-- ---- the answers of a call on the desk: d is the desk's test, g the fields' number, a the lists'; `after` are the words of a change
+module _ (ws : List ℕ) (d : ℕ) (ed : d ≡ sized ws (answer (valid (bookOf ws)) 0 0)) where
+  -- a refusal of the test comes before all others, and only a sound desk passes
+  by : (f n : ℕ) → ((d ≡ 0 → ⊥) → d ≡ sized ws (answer (valid (bookOf ws)) f n)) × (d ≡ 0 → Sound ws)
+  unfolding sized answer
+  by f n = go (leb DESK (length ws)) refl (valid (bookOf ws)) refl ed
+    where
+      go : (l : Bool) → leb DESK (length ws) ≡ l → (v : Bool) → valid (bookOf ws) ≡ v → d ≡ cond l (answer v 0 0) 1
+          → ((d ≡ 0 → ⊥) → d ≡ cond l (answer v f n) 1) × (d ≡ 0 → Sound ws)
+      go true t true e q = (λ h. absurd (h q), λ z. record { long = leb-true DESK (length ws) t; book = e })
+      go true t false e q = (λ h. q, λ z. absurd (omega arith))
+      go false t v e q = (λ h. q, λ z. absurd (omega arith))
+
+  pub sound-at : d ≡ 0 → Sound ws
+  sound-at = by 0 0 .1
+
+  pub unsound-at : DESK ≤ length ws → (d ≡ 0 → ⊥) → valid (bookOf ws) ≡ false
+  unfolding sized answer
+  unsound-at h z = go (valid (bookOf ws)) refl
+    where
+      go : (v : Bool) → valid (bookOf ws) ≡ v → v ≡ false
+      go true e = absurd (z (ed ∙ rw (le-leb DESK (length ws) h, e)))
+      go false e = refl
+
+  module _ (after : List ℕ) (f n : ℕ) where
     abbrev it : ℕ
     it = sized ws (answer (valid (bookOf ws)) f n)
 
-    long : it ≡ answer v f n
-    unfolding sized
-    long = rw (le-leb DESK (length ws) h, ev)
+    both : (r : ℕ) → r ≡ it → (r ≡ 0 → ⊥) → (r ≡ it) × (ws ≡ at0 it after ws)
+    unfolding at0
+    both r e h = (e, rw (← e, ne-eqb r 0 h))
 
-    pub says-2 : not v ≡ true → (2 ≡ it) × (ws ≡ at0 it after ws)
-    unfolding answer
-    says-2 t = both 2 it (sym (long ∙ ap (λ (b : Bool). answer b f n) (not-true v t))) (omega arith)
+    pub says-d : (d ≡ 0 → ⊥) → (d ≡ it) × (ws ≡ at0 it after ws)
+    says-d h = both d (by f n .0 h) h
 
-    module _ (t : not v ≡ false) (g : Bool) (eg : g ≡ f) where
-      pub says-2f : not g ≡ true → (2 ≡ it) × (ws ≡ at0 it after ws)
-      unfolding answer
-      says-2f tg =
-          both 2 it (sym (long ∙ ap (λ (b : Bool). answer b f n) (not-false v t) ∙ ap (λ (b : Bool). answer true b n) (sym eg ∙ not-true g tg))) (omega arith)
+    module _ (z : d ≡ 0) (g : ℕ) (eg : g ≡ f) where
+      sound : it ≡ answer true f n
+      unfolding sized
+      sound = rw (le-leb DESK (length ws) (sound-at z .long), sound-at z .book)
 
-      module _ (tg : not g ≡ false) (a : ℕ) (ea : a ≡ n) where
+      pub says-f : (g ≡ 0 → ⊥) → (g ≡ it) × (ws ≡ at0 it after ws)
+      says-f hg = both g (eg ∙ sym (sound ∙ answer-f f n (λ y. hg (eg ∙ y)))) hg
+
+      module _ (zg : g ≡ 0) (a : ℕ) (ea : a ≡ n) where
         passes : it ≡ n
-        unfolding answer
-        passes = long ∙ ap (λ (b : Bool). answer b f n) (not-false v t) ∙ ap (λ (b : Bool). answer true b n) (sym eg ∙ not-false g tg)
+        passes = sound ∙ answer-n f n (sym eg ∙ zg)
 
         pub says-n : (a ≡ 0 → ⊥) → (a ≡ it) × (ws ≡ at0 it after ws)
-        says-n ha = both a it (ea ∙ sym passes) ha
+        says-n ha = both a (ea ∙ sym passes) ha
 
         pub says-0 : a ≡ 0 → (w : List ℕ) → w ≡ after → (0 ≡ it) × (w ≡ at0 it after ws)
         unfolding at0
@@ -103,27 +134,51 @@ module _ (ws after : List ℕ) where
             let e : 0 ≡ it = sym ha ∙ ea ∙ sym passes in
             (e, rw (← e) ew)
 
--- ---- a valid desk's block now, also behind a copy laid
-module _ (ws : List ℕ) (h : DESK ≤ length ws) (v : Bool) (ev : v ≡ valid (bookOf ws)) (t : not v ≡ false) where
-  pub counted : Counted (block ws)
-  counted = record { long = Decode.block-long ws h; few = Valid.few-all (block ws) (Valid.head-ok ws (sym ev ∙ not-false v t)) }
+-- ---- a sound desk's block now
+module _ (ws : List ℕ) (s : Sound ws) where
+  pub lists-fit : okLists (listsOf (block ws)) ≡ true
+  lists-fit = Valid.head-ok ws (s .book)
 
-  module _ (l : List ℕ) (el : l ≡ laid ws) where
-    pub carried : block l ≡ block ws
-    carried = ap block el ∙ Decode.block-laid ws h
+  pub counted : Counted (block ws)
+  counted = record { long = Decode.block-long ws (s .long); few = Valid.few-all (block ws) lists-fit }
+
+  pub latest-fits : (getD ws 0 0 ≡ 0 → ⊥) → okLists (before (entryOf (latest ws)) (listsOf (block ws))) ≡ true
+  latest-fits z = Valid.latest-ok ws (s .long) (s .book) z
+
+  pub spot-here : (k : Kind) (name n i : ℕ) → n ≡ retireNumber k (listsOf (block ws)) name → n ≡ 0 → i ≡ spot k (listsOf (block ws)) name → i < count (area k (block ws))
+  spot-here k name n i e z ei = rw ei (Blocks.spot-in k (block ws) name n e z)
+
+  -- l are the words with the entry e laid: the block is as it was
+  module _ (e l : List ℕ) (he : length e ≡ ENTRY) (el : l ≡ laid e ws) where
+    carried : block l ≡ block ws
+    carried = ap block el ∙ Decode.block-laid ws (s .long) e he
 
     pub counted-laid : Counted (block l)
     counted-laid = rw carried counted
 
-    pub changed : (F : List ℕ → List ℕ) (ys : List ℕ) → ys ≡ F (block l) → take 1 l ++ (ys ++ drop BLOCK (drop 1 l)) ≡ withBlock (F (block ws)) (laid ws)
+    pub changed : (F : List ℕ → List ℕ) (ys : List ℕ) → ys ≡ F (block l) → take 1 l ++ (ys ++ drop BLOCK (drop 1 l)) ≡ withBlock (F (block ws)) (laid e ws)
     unfolding withBlock withPart
     changed F ys ey = rw (ey, carried, el)
+
+    pub room-laid : (k : Kind) (id n : ℕ) → n ≡ addNumber k (listsOf (block ws)) id → n ≡ 0 → roomNumber k (listOf k (block l)) ≡ 0
+    room-laid k id n q z = rw carried (Blocks.room-of k (block ws) id n q z)
+
+    pub spot-laid : (k : Kind) (i : ℕ) → i < count (area k (block ws)) → i < count (area k (block l))
+    spot-laid k i hi = rw carried hi
+
+  -- the entry of a retirement is whole
+  pub long-retired : (k : Kind) (i : ℕ) → i < count (area k (block ws)) → length (backWords k i (getD (listOf k (block ws)) i [])) ≡ ENTRY
+  long-retired k i hi = Decode.long-back k i _ (Decode.row-full k (block ws) counted i hi)
+
+pub retired-at : (ws : List ℕ) (k : Kind) (i j : ℕ) (w : List ℕ) → i ≡ j
+    → w ≡ withBlock (withoutRow k i (block ws)) (laid (backWords k i (getD (listOf k (block ws)) i [])) ws) → w ≡ retired k j ws
+unfolding retired
+retired-at ws k i j w e q = rw (← e) q
 
 -- ---- undo
 module _ (ws : List ℕ) where
   pub depth-is : length (bookOf ws .pile) ≡ getD ws 0 0
-  unfolding bookOf
-  depth-is = rw length-map (Rows.length-rows BLOCK (getD ws 0 0) (drop NEXT ws))
+  depth-is = Valid.length-pile ws (getD ws 0 0) refl
 
   pub empty-pile : getD ws 0 0 ≡ 0 → _≡_ {A = ℕ} 7 (cond (eqb (length (bookOf ws .pile)) 0) 7 0)
   empty-pile h = rw (eq-eqb (length (bookOf ws .pile)) 0 (depth-is ∙ h))
@@ -131,16 +186,80 @@ module _ (ws : List ℕ) where
   pub some-pile : (getD ws 0 0 ≡ 0 → ⊥) → _≡_ {A = ℕ} 0 (cond (eqb (length (bookOf ws .pile)) 0) 7 0)
   some-pile h = rw (ne-eqb (length (bookOf ws .pile)) 0 (λ e. h (sym depth-is ∙ e)))
 
--- ---- an addition and a retirement behind a copy laid
-module _ (ws : List ℕ) (h : DESK ≤ length ws) (l : List ℕ) (el : l ≡ laid ws) (k : Kind) where
-  same : block l ≡ block ws
-  same = ap block el ∙ Decode.block-laid ws h
+-- ---- words put into a list of their length
+pub put-all : (d s ys : List ℕ) → length d ≡ length s → ys ≡ pasted d 0 s (length s) → ys ≡ s
+unfolding pasted
+put-all d s ys h e =
+    let l : drop (0 + length s) d ≡ [] = drop-of-length-le d {i = 0 + length s} (omega arith) in
+    e ∙ rw (l, Seq.take-all (length s) s (omega arith)) (append-nil s)
 
-  pub room-laid : (id n : ℕ) → n ≡ addNumber k (listsOf (block ws)) id → n ≡ 0 → roomNumber k (listOf k (block l)) ≡ 0
-  room-laid id n e z = rw same (Blocks.room-of k (block ws) id n e z)
+-- ---- a copy of the block now
+module _ (ws : List ℕ) (h : DESK ≤ length ws) (d ys : List ℕ) (ld : length d ≡ BLOCK) (e : ys ≡ pasted d 0 (block ws) (length (block ws))) where
+  pub copy-is : ys ≡ block ws
+  copy-is = put-all d (block ws) ys (ld ∙ sym (Decode.block-long ws h)) e
 
-  pub spot-laid : (name n i : ℕ) → n ≡ retireNumber k (listsOf (block ws)) name → n ≡ 0 → i ≡ spot k (listsOf (block ws)) name → i < count (area k (block l))
-  spot-laid name n i e z ei = rw (same, ei) (Blocks.spot-in k (block ws) name n e z)
+  pub copy-long : length ys ≡ BLOCK
+  copy-long = ap length copy-is ∙ Decode.block-long ws h
+
+  pub copy-ok : okLists (listsOf (block ws)) ≡ true → okLists (listsOf ys) ≡ true
+  copy-ok ok = rw copy-is ok
+
+-- ---- the entries of a change
+pub laid-out : (ws w : List ℕ) (k : Kind) (t : ℕ) → t ≡ tag k → w ≡ laid (t ∷ 0 ∷ 0 ∷ 0 ∷ 0 ∷ 0 ∷ 0 ∷ []) ws → w ≡ laid (outWords k) ws
+unfolding outWords
+laid-out ws w k t e q = q ∙ rw e
+
+-- row i of the desk's block: a is where it begins, n its words as the loan says them
+module _ (ws : List ℕ) (h : DESK ≤ length ws) (cnt : Counted (block ws)) (k : Kind) (i : ℕ) (hi : i < count (area k (block ws)))
+    (w s : ℕ) (ew : w ≡ width k) (es : s ≡ start k) where
+  pub row-room : 2 + s + i * w + w ≤ NEXT
+  row-room = rw (ew, es) (omega (arith, Blocks.row-inside k (block ws) cnt i hi))
+
+  pub row-narrow : 2 + w ≤ ENTRY
+  row-narrow = rw ew (omega (arith, Decode.narrow k))
+
+  module _ (n : ℕ) (en : n ≡ 2 + s + i * w + w - (2 + s + i * w)) where
+    pub row-taken : take n (drop (2 + s + i * w) ws) ≡ getD (listOf k (block ws)) i []
+    unfolding block part
+    row-taken =
+        let q : n ≡ width k = omega arith in
+        let j : ℕ = start k + (1 + i * width k) in
+        let b : j + width k ≤ BLOCK = Blocks.row-inside k (block ws) cnt i hi in
+        let o : 1 + j ≡ 2 + start k + i * width k = omega arith in
+        rw (q, es, ew)
+        (ap (λ (t : ℕ). take (width k) (drop t ws)) (sym o)
+        ∙ ap (take (width k)) (sym (Seq.drop-drop j 1 ws))
+        ∙ Rows.take-drop j (width k) (drop 1 ws)
+        ∙ ap (drop j) (sym (Seq.take-take (j + width k) BLOCK (drop 1 ws) b))
+        ∙ sym (Rows.take-drop j (width k) (take BLOCK (drop 1 ws)))
+        ∙ sym (Blocks.row-words k (block ws) cnt i hi))
+
+    pub row-fits : length (take n (drop (2 + s + i * w) ws)) ≡ width k
+    row-fits = ap length row-taken ∙ Decode.row-full k (block ws) cnt i hi
+
+    pub laid-back : (t p : ℕ) (e l : List ℕ) → t ≡ tag k → p ≡ i
+        → e ≡ pasted ((KINDS + t) ∷ p ∷ 0 ∷ 0 ∷ 0 ∷ 0 ∷ 0 ∷ []) 2 (take n (drop (2 + s + i * w) ws)) (length (take n (drop (2 + s + i * w) ws)))
+        → l ≡ laid e ws → l ≡ laid (backWords k i (getD (listOf k (block ws)) i [])) ws
+    unfolding backWords
+    laid-back t p e l et ep ee el = el ∙ ap (λ (x : List ℕ). laid x ws) (ee ∙ rw (row-fits, row-taken, et, ep))
+
+-- ---- the latest entry taken
+module _ (ws l e : List ℕ) (s : Sound ws) (some : 0 < getD ws 0 0) (el : l ≡ unlaid ws) (ee : e ≡ latest ws) where
+  same-now : block l ≡ block ws
+  same-now = ap block el ∙ Decode.block-unlaid ws (s .long)
+
+  pub block-now : length (block l) ≡ BLOCK
+  block-now = ap length same-now ∙ Decode.block-long ws (s .long)
+
+  pub lists-now : okLists (listsOf (block l)) ≡ true
+  lists-now = rw same-now (lists-fit ws s)
+
+  pub latest-taken : (r : Bool) (ys : List ℕ) → (r ≡ okLists (before (entryOf e) (listsOf (block l)))) × (r ≡ true → ys ≡ blockBefore (entryOf e) (block l))
+      → take 1 l ++ (ys ++ drop BLOCK (drop 1 l)) ≡ withBlock (blockBefore (entryOf (latest ws)) (block ws)) (unlaid ws)
+  unfolding withBlock withPart
+  latest-taken r ys p =
+      let t : r ≡ true = p .0 ∙ rw (ee, same-now) (latest-fits ws s (λ z. omega arith)) in
+      rw (p .1 t, ee, same-now, el)
 
 -- ---- a caller's arguments
 pub as-called : (c d : Call) (ws w : List ℕ) (r : ℕ) → c ≡ d → (r ≡ number c ws) × (w ≡ words c ws) → (r ≡ number d ws) × (w ≡ words d ws)

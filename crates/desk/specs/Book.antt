@@ -1,6 +1,6 @@
 -- 01, 'Desk and page text': the book. A list for each kind of record, a pile of copies of the lists, and the number that each call gets.
 -- A record is the list of its fields, in 01's order; a coordinate is counted in steps from −2^31.
-use mathlib.Core.List.{List, [], _∷_, _++_}
+use mathlib.Core.List.{List, [], _∷_, _++_, map}
 use mathlib.Core.Bool.{Bool, true, not, cond, _&&_}
 use Prim.Native.Nat.{ℕ}
 use lib.ListN.{length, getD, take}
@@ -68,8 +68,16 @@ okFields Kind.Port r = (okId (field 0 r) && okPlace (field 1 r) (field 2 r)) && 
 okFields Kind.Net r = okId (field 0 r)
 okFields Kind.End r = (okId (field 0 r) && okPlace (field 1 r) (field 2 r)) && leb (field 3 r) 1
 
+-- 'Numbers handed back' 2: a field out of range
+unfoldable pub ranged : Bool → ℕ
+ranged ok = cond ok 0 2
+
+-- the number of a record's fields, and a record that a desk may hold
+unfoldable pub fieldsNumber : Kind → Record → ℕ
+fieldsNumber k r = ranged (eqb (length r) (width k) && okFields k r)
+
 unfoldable pub okRecord : Kind → Record → Bool
-okRecord k r = eqb (length r) (width k) && okFields k r
+okRecord k r = eqb (fieldsNumber k r) 0
 
 -- a record among those behind it: ids are distinct; a record of a box or net, whose records are os: it is there
 unfoldable pub own : Kind → Record → List Record → Bool
@@ -96,6 +104,15 @@ okCopy l ls = okLists l
 -- 'and each undo entry, taken in turn, applies and leaves such a desk'
 unfoldable pub valid : Book → Bool
 valid b = leb (length (b .pile)) COPIES && scan okCopy (b .lists ∷ b .pile)
+
+-- what a call sees of a desk: whether it is sound, its lists, and how many changes can be undone
+pub record Seen : Type 0 where
+  pub sound : Bool
+  pub lists : Lists
+  pub depth : ℕ
+
+abbrev pub seen : Book → Seen
+seen b = record { sound = valid b; lists = b .lists; depth = length (b .pile) }
 
 -- ---- 'Numbers handed back', on the lists alone: 3 id live already; 4 box, net or place unknown; 5 box has ports, or net has ends; 6 that list is full
 unfoldable pub roomNumber : Kind → List Record → ℕ
@@ -128,11 +145,11 @@ retireNumber Kind.Net l id = idNumber (l .nets) (l .ends) id
 retireNumber Kind.End l at = placeNumber (l .ends) at
 
 -- an id is a field, a place is none
-abbrev pub okName : Kind → ℕ → Bool
-okName Kind.Box id = okId id
-okName Kind.Port at = true
-okName Kind.Net id = okId id
-okName Kind.End at = true
+abbrev pub nameNumber : Kind → ℕ → ℕ
+nameNumber Kind.Box id = ranged (okId id)
+nameNumber Kind.Port at = 0
+nameNumber Kind.Net id = ranged (okId id)
+nameNumber Kind.End at = 0
 
 -- the place of the record that is named so
 abbrev pub spot : Kind → Lists → ℕ → ℕ
@@ -141,13 +158,13 @@ spot Kind.Port l at = at
 spot Kind.Net l id = place id (ids (l .nets))
 spot Kind.End l at = at
 
--- 2: the desk is not valid or a field is out of range; else n
-unfoldable pub answer : Bool → Bool → ℕ → ℕ
-answer v f n = cond (v && f) n 2
+-- 2: the desk is not sound; else the fields' number; else n
+unfoldable pub answer : Bool → ℕ → ℕ → ℕ
+answer sound fields n = cond sound (cond (eqb fields 0) n fields) 2
 
 -- the number of a record that is added without a copy, as reading does
 unfoldable pub takeNumber : Kind → Record → Lists → ℕ
-takeNumber k r l = answer true (okRecord k r) (addNumber k l (key r))
+takeNumber k r l = answer true (fieldsNumber k r) (addNumber k l (key r))
 
 -- ---- changes
 -- 'an addition puts its record last and a retirement takes its record out'
@@ -168,3 +185,21 @@ back b (l ∷ ls) = record { lists = l; pile = ls }
 
 abbrev pub noLists : Lists
 noLists = record { boxes = []; ports = []; nets = []; ends = [] }
+
+-- the book of lists without a copy; 'empty at first'
+abbrev pub bookWith : Lists → Book
+bookWith l = record { lists = l; pile = [] }
+
+abbrev pub noBook : Book
+noBook = bookWith noLists
+
+-- 'the surviving records are the lists in kept order: boxes, ports, nets, ends'
+pub record Item : Type 0 where
+  pub kind : Kind
+  pub row : Record
+
+unfoldable pub items : Kind → List Record → List Item
+items k rs = map (λ r. record { kind = k; row = r }) rs
+
+unfoldable pub inOrder : Lists → List Item
+inOrder l = items Kind.Box (l .boxes) ++ (items Kind.Port (l .ports) ++ (items Kind.Net (l .nets) ++ items Kind.End (l .ends)))

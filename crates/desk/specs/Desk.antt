@@ -1,14 +1,15 @@
 -- 01, 'Desk and page text': how the words of a lent slice stand for a book, and what words a change leaves.
--- Words: the pile's depth, then 33 blocks, the lists now first and then the copies, the latest first. A block: an area for each kind.
+-- Words: the pile's depth, then the block of the lists now, then 32 undo entries, the latest first. A block: an area for each kind.
 use mathlib.Core.Path.{_≡_}
-use mathlib.Core.List.{List, map}
-use mathlib.Core.Bool.{cond}
-use Prim.Native.Nat.{ℕ, _+_, _-_, _≤_, min}
-use lib.ListN.{length, getD, drop, set}
-use lib.Dec.{eqb, leb}
-use Rattle.rows.specs.Rows.{pasted, part, withPart, rows, records, count, putLast, takeOut}
-use Rattle.desk.specs.Sizes.{COPIES, BOX-AREA, PORT-AREA, NET-AREA, END-AREA, PORTS-AT, NETS-AT, ENDS-AT, BLOCK, NEXT, PILE, DESK}
-use Rattle.desk.specs.Book.{Record, Lists, Book, width, most}
+use mathlib.Core.List.{List, [], _∷_, map}
+use mathlib.Core.Bool.{Bool, true, cond, _&&_}
+use Prim.Native.Nat.{ℕ, _+_, _-_, _*_, _≤_, min}
+use lib.ListN.{length, getD, take, drop, set}
+use lib.Dec.{eqb, leb, ltb}
+use Rattle.rows.specs.Rows.{pasted, part, withPart, rows, records, key, isIn, count, putLast, takeOut, putIn}
+use Rattle.desk.specs.Sizes.{COPIES, BOX-AREA, PORT-AREA, NET-AREA, END-AREA, PORTS-AT, NETS-AT, ENDS-AT, BLOCK, NEXT, ENTRY, LATER, DESK}
+use Rattle.desk.specs.Book.{Record, Lists, Book, valid, Seen, seen, width, most, okRecord}
+use Rattle.desk.specs.Entries.{Entry, out, back, none, copies}
 use Rattle.desk.specs.declared.Kind.{Kind}
 
 -- ---- a block
@@ -35,6 +36,10 @@ unfoldable pub listsOf : List ℕ → Lists
 listsOf blk =
     record { boxes = listOf Kind.Box blk; ports = listOf Kind.Port blk; nets = listOf Kind.Net blk; ends = listOf Kind.End blk }
 
+-- a record belongs to one of those whose ids these are
+unfoldable pub listed : Kind → List ℕ → Record → List Record → Bool
+listed k is r rs = okRecord k r && isIn (key r) is
+
 -- a block whose counts keep the limits
 pub record Counted (blk : List ℕ) : Type 0 where
   pub long : length blk ≡ BLOCK
@@ -47,6 +52,43 @@ withRow k r blk = withPart (start k) (size k) (putLast (width k) r (area k blk))
 unfoldable pub withoutRow : Kind → ℕ → List ℕ → List ℕ
 withoutRow k i blk = withPart (start k) (size k) (takeOut (width k) i (area k blk)) blk
 
+-- and with a row put in at place i
+unfoldable pub withRowAt : Kind → ℕ → Record → List ℕ → List ℕ
+withRowAt k i r blk = withPart (start k) (size k) (putIn (width k) i r (area k blk)) blk
+
+-- ---- an entry: 0 to 3 the last record of that kind goes, 4 to 7 a record comes back; its place; its row
+abbrev pub tag : Kind → ℕ
+tag Kind.Box = 0
+tag Kind.Port = 1
+tag Kind.Net = 2
+tag Kind.End = 3
+
+abbrev pub KINDS : ℕ
+KINDS = 4
+
+unfoldable pub kindOf : ℕ → Kind
+kindOf n = cond (eqb n 0) Kind.Box (cond (eqb n 1) Kind.Port (cond (eqb n 2) Kind.Net Kind.End))
+
+unfoldable pub comesBack : Kind → List ℕ → Entry
+comesBack k e = back k (getD e 1 0) (take (width k) (drop 2 e))
+
+unfoldable pub entryOf : List ℕ → Entry
+entryOf e =
+    cond (ltb (getD e 0 0) KINDS) (out (kindOf (getD e 0 0))) (cond (ltb (getD e 0 0) (2 * KINDS)) (comesBack (kindOf (getD e 0 0 - KINDS)) e) none)
+
+-- the words of the two
+unfoldable pub outWords : Kind → List ℕ
+outWords k = tag k ∷ 0 ∷ 0 ∷ 0 ∷ 0 ∷ 0 ∷ 0 ∷ []
+
+unfoldable pub backWords : Kind → ℕ → Record → List ℕ
+backWords k i r = pasted ((KINDS + tag k) ∷ i ∷ 0 ∷ 0 ∷ 0 ∷ 0 ∷ 0 ∷ []) 2 r (width k)
+
+-- the block before the change that an entry undoes
+unfoldable pub blockBefore : Entry → List ℕ → List ℕ
+blockBefore (out k) blk = withoutRow k (count (area k blk) - 1) blk
+blockBefore (back k i r) blk = withRowAt k i r blk
+blockBefore none blk = blk
+
 -- ---- the desk
 unfoldable pub block : List ℕ → List ℕ
 block ws = part 1 BLOCK ws
@@ -54,23 +96,37 @@ block ws = part 1 BLOCK ws
 unfoldable pub withBlock : List ℕ → List ℕ → List ℕ
 withBlock blk ws = withPart 1 BLOCK blk ws
 
+unfoldable pub entriesOf : List ℕ → List Entry
+entriesOf ws = map entryOf (rows ENTRY (getD ws 0 0) (drop NEXT ws))
+
 unfoldable pub bookOf : List ℕ → Book
-bookOf ws = record { lists = listsOf (block ws); pile = map listsOf (rows BLOCK (getD ws 0 0) (drop NEXT ws)) }
+bookOf ws = record { lists = listsOf (block ws); pile = copies (entriesOf ws) (listsOf (block ws)) }
 
--- the block now laid on the pile: all blocks move up one place, and the oldest of 33 falls out
-unfoldable pub laid : List ℕ → List ℕ
-laid ws = set (pasted ws NEXT (drop 1 ws) PILE) 0 (min (getD ws 0 0 + 1) COPIES)
+abbrev pub seenOf : List ℕ → Seen
+seenOf ws = seen (bookOf ws)
 
--- all blocks move down one place
-unfoldable pub undone : List ℕ → List ℕ
-undone ws = set (pasted ws 1 (drop NEXT ws) PILE) 0 (getD ws 0 0 - 1)
+-- an entry laid on the pile: all entries move up one place, and the oldest of 33 falls out
+unfoldable pub laid : List ℕ → List ℕ → List ℕ
+laid e ws = set (pasted (pasted ws (NEXT + ENTRY) (drop NEXT ws) LATER) NEXT e ENTRY) 0 (min (getD ws 0 0 + 1) COPIES)
 
--- a desk that is long enough, and whose lists now keep the counts' limits: what a record can be added to without a copy
+-- the latest entry, and the words without it: all entries move down one place
+unfoldable pub latest : List ℕ → List ℕ
+latest ws = part NEXT ENTRY ws
+
+unfoldable pub unlaid : List ℕ → List ℕ
+unlaid ws = set (pasted ws NEXT (drop (NEXT + ENTRY) ws) LATER) 0 (getD ws 0 0 - 1)
+
+-- a desk that is long enough, and whose lists now keep the counts' limits: what a record can be added to without an entry
 pub record Ready (ws : List ℕ) : Type 0 where
   pub long : DESK ≤ length ws
   pub counted : Counted (block ws)
 
--- the words with a record put last, without a copy
+-- a desk that is long enough and sound
+pub record Sound (ws : List ℕ) : Type 0 where
+  pub long : DESK ≤ length ws
+  pub book : valid (bookOf ws) ≡ true
+
+-- the words with a record put last, without an entry
 unfoldable pub taken : Kind → Record → List ℕ → List ℕ
 taken k r ws = withBlock (withRow k r (block ws)) ws
 

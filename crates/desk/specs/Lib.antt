@@ -1,5 +1,5 @@
 pub mod Sizes
 pub mod Book
+pub mod Entries
 pub mod Desk
 pub mod Calls
-pub mod Stamps

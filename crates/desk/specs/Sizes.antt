@@ -1,5 +1,5 @@
 -- 01, 'Limits': how many records a list holds, and the sizes of the desk in words. A record is a row of words, its fields.
-use Prim.Native.Nat.{ℕ, _+_, _*_}
+use Prim.Native.Nat.{ℕ, _+_, _-_, _*_}
 
 -- ids 1 to 65,535; 32 copies on the pile
 abbrev pub IDS : ℕ
@@ -60,12 +60,19 @@ ENDS-AT = NETS-AT + NET-AREA
 abbrev pub BLOCK : ℕ
 BLOCK = ENDS-AT + END-AREA
 
--- the desk: a word, the depth of the pile, and 33 blocks; the place of the first copy, and the words of 32 blocks
+-- an undo entry: what it does, a place and the widest row
+abbrev pub ENTRY : ℕ
+ENTRY = 2 + BOX
+
+-- the desk: a word, the depth of the pile; the block of the lists now; 32 undo entries; where the entries begin, their words, and those but the latest
 abbrev pub NEXT : ℕ
 NEXT = 1 + BLOCK
 
 abbrev pub PILE : ℕ
-PILE = COPIES * BLOCK
+PILE = COPIES * ENTRY
+
+abbrev pub LATER : ℕ
+LATER = PILE - ENTRY
 
 abbrev pub DESK : ℕ
 DESK = NEXT + PILE

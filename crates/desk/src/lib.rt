@@ -1,23 +1,20 @@
-// A desk: boxes, ports, nets and ends in a lent slice of words, with a pile of up to 32 copies for undo.
+// A desk: boxes, ports, nets and ends in a lent slice of words, with a pile of up to 32 undo entries.
 ghost use mathlib.Core.Path.{_≡_};
 ghost use mathlib.Core.Bool.{Bool, true, not, _&&_};
-ghost use mathlib.Core.List.{List};
+ghost use mathlib.Core.List.{List, [], map};
 ghost use Prim.Native.Nat.{ℕ, _+_, _*_, _≤_, _<_};
 ghost use lib.ListN.{length, getD, take, drop, set};
 ghost use lib.Dec.{eqb};
-ghost use Rattle.rows.specs.Rows.{isIn, ids, key, keys, count, scan, place, records as records-of};
-ghost use Rattle.desk.specs.Sizes.{COPIES, BOX, PORT, NET, END, BLOCK, DESK};
-ghost use Rattle.desk.specs.Book.{okId, okPlace, okFields, okRecord, list, width as width-of, most as most-of, addNumber, newNumber, knownNumber, roomNumber, takeNumber, own, belongs, okOwners, okMembers, okLists, valid, idNumber, placeNumber, retireNumber, spot as spot-of, okName, answer};
-ghost use Rattle.desk.specs.Desk.{start, size as size-of, area, listOf, listsOf, Counted, withRow, block, Ready, taken, emptied, at0, withoutRow, laid, undone, bookOf, sized};
-ghost use Rattle.desk.specs.Stamps.{TABLE, Fresh, Stamped};
-ghost use Rattle.desk.specs.Calls.{Call, number, words, boxRecord, pointRecord, netRecord};
+ghost use Rattle.rows.specs.Rows.{isIn, ids, key, keys, count, scan, place, records as records-of, rows as rows-of};
+ghost use Rattle.desk.specs.Sizes.{COPIES, BOX, PORT, NET, END, BLOCK, NEXT, ENTRY, PILE, DESK};
+ghost use Rattle.desk.specs.Book.{okId, okPlace, okFields, okRecord, list, width as width-of, most as most-of, ranged as ranged-of, fieldsNumber, nameNumber, addNumber, newNumber, knownNumber, roomNumber, takeNumber, own, belongs, okOwners, okMembers, okLists, okCopy, valid, idNumber, placeNumber, retireNumber, spot as spot-of, answer};
+ghost use Rattle.desk.specs.Desk.{start, size as size-of, area, listOf, listsOf, listed, Counted, withRow, withRowAt, tag as tag-of, kindOf, entryOf, outWords, backWords, blockBefore, block, withBlock, Ready, Sound, taken, emptied, at0, withoutRow, laid, latest, unlaid, bookOf, seenOf, sized};
+ghost use Rattle.desk.specs.Entries.{before, copies, out, back, isHeld};
+ghost use Rattle.desk.specs.Calls.{Call, does, number, words, boxRecord, pointRecord, netRecord};
 
 pub const IDS: u32 = 65535;
 
 pub const COPIES: u32 = 32;
-
-// A stamp for each id and 0.
-const TABLE: usize = 65536;
 
 pub const BOX: usize = 5;
 
@@ -34,6 +31,9 @@ pub const PORTS: usize = 256;
 pub const NETS: usize = 64;
 
 pub const ENDS: usize = 256;
+
+// The most records of a list of any kind.
+const MOST: usize = PORTS;
 
 pub const BOX_AREA: usize = 1 + BOXES * BOX;
 
@@ -53,7 +53,13 @@ pub const BLOCK: usize = ENDS_AT + END_AREA;
 
 pub const NEXT: usize = 1 + BLOCK;
 
-pub const PILE: usize = 32 * BLOCK;
+pub const ENTRY: usize = 2 + BOX;
+
+pub const PILE: usize = 32 * ENTRY;
+
+pub const LATER: usize = PILE - ENTRY;
+
+const KINDS: u32 = 4;
 
 pub const DESK: usize = NEXT + PILE;
 
@@ -139,17 +145,32 @@ fn ok_point(row: &[u32]) -> bool
     ok_id(row[0]) & ok_place(row[1], row[2])
 }
 
-// Whether the fields of a record keep their ranges.
+// 2 where a field is out of range.
+fn ranged(ok: bool) -> u32
+    ensures { λ r. ⌜ r ≡ ranged-of ok ⌝ }
+{
+    if ok { 0 } else { 2 }
+}
+
+// The number of a record's fields.
+fn fields_number(kind: Kind, row: &[u32]) -> u32
+    requires { ⌜ length (now row) ≡ width-of kind ⌝ }
+    ensures { λ r. ⌜ r ≡ fieldsNumber kind (now (row .entry)) ⌝ }
+{
+    match kind {
+        Kind::Box => ranged(ok_box(row)),
+        Kind::Port => ranged(ok_point(row) & (row[3] <= 15)),
+        Kind::Net => ranged(ok_id(row[0])),
+        Kind::End => ranged(ok_point(row) & (row[3] <= 1)),
+    }
+}
+
+// Whether a desk may hold a record.
 fn ok_record(kind: Kind, row: &[u32]) -> bool
     requires { ⌜ length (now row) ≡ width-of kind ⌝ }
     ensures { λ r. ⌜ r ≡ okRecord kind (now (row .entry)) ⌝ }
 {
-    match kind {
-        Kind::Box => ok_box(row),
-        Kind::Port => ok_point(row) & (row[3] <= 15),
-        Kind::Net => ok_id(row[0]),
-        Kind::End => ok_point(row) & (row[3] <= 1),
-    }
+    fields_number(kind, row) == 0
 }
 
 // Whether a record of that kind with that first field is in the block.
@@ -233,8 +254,9 @@ pub fn take_record(desk: &mut [u32], kind: Kind, row: &[u32]) -> u32
     ensures { λ r. ⌜ r ≡ takeNumber kind (now (row .entry)) (listsOf (block (now (desk .entry)))) ⌝ }
     ensures { λ r. ⌜ now (desk .exit) ≡ at0 r (taken kind (now (row .entry)) (now (desk .entry))) (now (desk .entry)) ⌝ }
 {
-    if !ok_record(kind, row) {
-        return 2;
+    let fields = fields_number(kind, row);
+    if fields != 0 {
+        return fields;
     }
     let number = add_number(&desk[1..NEXT], kind, row[0]);
     if number != 0 {
@@ -256,70 +278,27 @@ pub fn empty(desk: &mut [u32])
     desk[1 + ENDS_AT] = 0;
 }
 
-// Gives an id the stamp: whether it did not have it.
-fn stamp_id(table: &mut [u8], stamp: u8, id: u32) -> bool
-    requires { ⌜ (id < TABLE) × (length (now table) ≡ TABLE) ⌝ }
-    ensures { λ r. ⌜ r ≡ not (eqb (getD (now (table .entry)) id 0) stamp) ⌝ }
-    ensures { λ _. ⌜ now (table .exit) ≡ set (now (table .entry)) id stamp ⌝ }
-{
-    let at = rows::wide(id);
-    let before = table[at];
-    table[at] = stamp;
-    before != stamp
-}
-
-// Whether row i keeps its ranges and no later row has its id: the ids behind it have the stamp, and then its own too.
-fn own_fits(part: &[u32], kind: Kind, n: usize, i: usize, table: &mut [u8], stamp: u8) -> bool
-    requires { ⌜ (i < n) × (1 + n * width-of kind ≤ length (now part)) ⌝ }
-    requires { ⌜ Stamped stamp (drop (i + 1) (keys (width-of kind) n (now part))) (now table) ⌝ }
+// Whether row i keeps its ranges and no later row has its id, where the ids are the rows' own.
+fn own_fits(part: &[u32], kind: Kind, n: usize, i: usize, ids: &[u32]) -> bool
+    requires { ⌜ (i < n) × (1 + n * width-of kind ≤ length (now part)) × (now ids ≡ keys (width-of kind) n (now part)) ⌝ }
     ensures { λ r. ⌜ r ≡ own kind (take (width-of kind) (drop (1 + i * width-of kind) (now (part .entry)))) (drop (i + 1) (records-of (width-of kind) n (now (part .entry)))) ⌝ }
-    ensures { λ r. ⌜ (r ≡ true → Stamped stamp (drop i (keys (width-of kind) n (now (part .entry)))) (now (table .exit))) ⌝ }
 {
     let w = width(kind);
     let a = 1 + i * w;
     if !ok_record(kind, &part[a..a + w]) {
         return false;
     }
-    stamp_id(table, stamp, part[a])
+    !rows::among(&ids[i + 1..], part[a])
 }
 
-// Whether row i keeps its ranges and what it belongs to is there: has the stamp.
-fn member_fits(part: &[u32], kind: Kind, n: usize, i: usize, table: &[u8], stamp: u8) -> bool
-    requires { ⌜ (i < n) × (1 + n * width-of kind ≤ length (now part)) × (length (now table) ≡ TABLE) ⌝ }
-    ensures { λ r. ⌜ ((os rs : List (List ℕ)) → Stamped stamp (ids os) (now (table .entry)) → r ≡ belongs kind os (take (width-of kind) (drop (1 + i * width-of kind) (now (part .entry)))) rs) ⌝ }
-{
-    let w = width(kind);
-    let a = 1 + i * w;
-    if !ok_record(kind, &part[a..a + w]) {
-        return false;
-    }
-    table[rows::wide(part[a])] == stamp
-}
-
-// Whether the rows fit, from the last to the first. Their ids have the stamp then.
-fn all_own(part: &[u32], kind: Kind, n: usize, table: &mut [u8], stamp: u8) -> bool
-    requires { ⌜ 1 + n * width-of kind ≤ length (now part) ⌝ }
-    requires { ⌜ Fresh stamp (now table) ⌝ }
+// Whether all n rows fit so.
+fn each_owns(part: &[u32], kind: Kind, n: usize, ids: &[u32]) -> bool
+    requires { ⌜ (1 + n * width-of kind ≤ length (now part)) × (now ids ≡ keys (width-of kind) n (now part)) ⌝ }
     ensures { λ r. ⌜ r ≡ scan (own kind) (records-of (width-of kind) n (now (part .entry))) ⌝ }
-    ensures { λ r. ⌜ (r ≡ true → Stamped stamp (keys (width-of kind) n (now (part .entry))) (now (table .exit))) ⌝ }
-{
-    let mut i = n;
-    while 0 < i {
-        i -= 1;
-        if !own_fits(part, kind, n, i, table, stamp) {
-            return false;
-        }
-    }
-    true
-}
-
-fn all_belong(part: &[u32], kind: Kind, n: usize, table: &[u8], stamp: u8) -> bool
-    requires { ⌜ (1 + n * width-of kind ≤ length (now part)) × (length (now table) ≡ TABLE) ⌝ }
-    ensures { λ r. ⌜ ((os : List (List ℕ)) → Stamped stamp (ids os) (now (table .entry)) → r ≡ scan (belongs kind os) (records-of (width-of kind) n (now (part .entry)))) ⌝ }
 {
     let mut i = 0;
     while i < n {
-        if !member_fits(part, kind, n, i, table, stamp) {
+        if !own_fits(part, kind, n, i, ids) {
             return false;
         }
         i += 1;
@@ -327,67 +306,118 @@ fn all_belong(part: &[u32], kind: Kind, n: usize, table: &[u8], stamp: u8) -> bo
     true
 }
 
-// Whether the boxes or nets fit. Their ids have the stamp then.
-fn ok_owners(blk: &[u32], kind: Kind, table: &mut [u8], stamp: u8) -> bool
-    requires { ⌜ length (now blk) ≡ BLOCK ⌝ }
-    requires { ⌜ Fresh stamp (now table) ⌝ }
-    ensures { λ r. ⌜ r ≡ okOwners kind (listOf kind (now (blk .entry))) ⌝ }
-    ensures { λ r. ⌜ (r ≡ true → Stamped stamp (ids (listOf kind (now (blk .entry)))) (now (table .exit))) ⌝ }
+// Whether row i keeps its ranges and its first word is among the ids.
+fn member_fits(part: &[u32], kind: Kind, n: usize, i: usize, ids: &[u32]) -> bool
+    requires { ⌜ (i < n) × (1 + n * width-of kind ≤ length (now part)) ⌝ }
+    ensures { λ r. ⌜ r ≡ listed kind (now (ids .entry)) (take (width-of kind) (drop (1 + i * width-of kind) (now (part .entry)))) (drop (i + 1) (records-of (width-of kind) n (now (part .entry)))) ⌝ }
 {
-    let n = records(blk, kind);
-    if most(kind) < n {
+    let w = width(kind);
+    let a = 1 + i * w;
+    if !ok_record(kind, &part[a..a + w]) {
         return false;
     }
-    let a = area_at(kind);
-    all_own(&blk[a..a + size(kind)], kind, n, table, stamp)
+    rows::among(ids, part[a])
 }
 
-// Whether the ports or ends fit, where the ids of what they can belong to have the stamp.
-fn ok_members(blk: &[u32], kind: Kind, table: &[u8], stamp: u8) -> bool
-    requires { ⌜ (length (now blk) ≡ BLOCK) × (length (now table) ≡ TABLE) ⌝ }
-    ensures { λ r. ⌜ ((os : List (List ℕ)) → Stamped stamp (ids os) (now (table .entry)) → r ≡ okMembers kind os (listOf kind (now (blk .entry)))) ⌝ }
+// Whether all n rows fit so.
+fn each_listed(part: &[u32], kind: Kind, n: usize, ids: &[u32]) -> bool
+    requires { ⌜ 1 + n * width-of kind ≤ length (now part) ⌝ }
+    ensures { λ r. ⌜ r ≡ scan (listed kind (now (ids .entry))) (records-of (width-of kind) n (now (part .entry))) ⌝ }
+{
+    let mut i = 0;
+    while i < n {
+        if !member_fits(part, kind, n, i, ids) {
+            return false;
+        }
+        i += 1;
+    }
+    true
+}
+
+// Whether the rows fit and have distinct ids. The ids are gathered first: side by side they are searched faster.
+fn all_own(part: &[u32], kind: Kind, n: usize) -> bool
+    requires { ⌜ (n ≤ most-of kind) × (1 + n * width-of kind ≤ length (now part)) ⌝ }
+    ensures { λ r. ⌜ r ≡ scan (own kind) (records-of (width-of kind) n (now (part .entry))) ⌝ }
+{
+    let mut ids: [u32; MOST] = [0; MOST];
+    rows::gather(part, width(kind), n, &mut ids);
+    each_owns(part, kind, n, &ids[..n])
+}
+
+// Whether the rows fit and what they belong to is among the owners, whose ids are gathered first.
+fn all_belong(part: &[u32], kind: Kind, n: usize, owners: &[u32], owner: Kind) -> bool
+    requires { ⌜ (1 + n * width-of kind ≤ length (now part)) × (count (now owners) ≤ most-of owner) × (1 + count (now owners) * width-of owner ≤ length (now owners)) ⌝ }
+    ensures { λ r. ⌜ r ≡ scan (belongs kind (records-of (width-of owner) (count (now (owners .entry))) (now (owners .entry)))) (records-of (width-of kind) n (now (part .entry))) ⌝ }
+{
+    let m = rows::wide(owners[0]);
+    let mut ids: [u32; MOST] = [0; MOST];
+    rows::gather(owners, width(owner), m, &mut ids);
+    each_listed(part, kind, n, &ids[..m])
+}
+
+// Whether the boxes or nets fit.
+fn ok_owners(blk: &[u32], kind: Kind) -> bool
+    requires { ⌜ length (now blk) ≡ BLOCK ⌝ }
+    ensures { λ r. ⌜ r ≡ okOwners kind (listOf kind (now (blk .entry))) ⌝ }
 {
     let n = records(blk, kind);
     if most(kind) < n {
         return false;
     }
     let a = area_at(kind);
-    all_belong(&blk[a..a + size(kind)], kind, n, table, stamp)
+    all_own(&blk[a..a + size(kind)], kind, n)
+}
+
+// Whether the ports or ends fit, where the boxes or nets keep their limit.
+fn ok_members(blk: &[u32], owner: Kind, kind: Kind) -> bool
+    requires { ⌜ (length (now blk) ≡ BLOCK) × (count (area owner (now blk)) ≤ most-of owner) ⌝ }
+    ensures { λ r. ⌜ r ≡ okMembers kind (listOf owner (now (blk .entry))) (listOf kind (now (blk .entry))) ⌝ }
+{
+    let n = records(blk, kind);
+    if most(kind) < n {
+        return false;
+    }
+    let a = area_at(kind);
+    let b = area_at(owner);
+    all_belong(
+        &blk[a..a + size(kind)],
+        kind,
+        n,
+        &blk[b..b + size(owner)],
+        owner,
+    )
 }
 
 // Whether the boxes and ports, or the nets and ends, fit.
-fn ok_pair(blk: &[u32], owner: Kind, kind: Kind, table: &mut [u8], stamp: u8) -> bool
+fn ok_pair(blk: &[u32], owner: Kind, kind: Kind) -> bool
     requires { ⌜ length (now blk) ≡ BLOCK ⌝ }
-    requires { ⌜ Fresh stamp (now table) ⌝ }
     ensures { λ r. ⌜ r ≡ okOwners owner (listOf owner (now (blk .entry))) && okMembers kind (listOf owner (now (blk .entry))) (listOf kind (now (blk .entry))) ⌝ }
-    ensures { λ r. ⌜ (r ≡ true → Fresh (stamp + 1) (now (table .exit))) ⌝ }
 {
-    if !ok_owners(blk, owner, table, stamp) {
+    if !ok_owners(blk, owner) {
         return false;
     }
-    ok_members(blk, kind, table, stamp)
+    ok_members(blk, owner, kind)
 }
 
-// Whether a block is a valid set of lists. Boxes get the stamp, and nets the next one.
-fn ok_block(blk: &[u32], table: &mut [u8], stamp: u8) -> bool
-    requires { ⌜ (length (now blk) ≡ BLOCK) × (stamp < 255) ⌝ }
-    requires { ⌜ Fresh stamp (now table) ⌝ }
+// Whether a block is a valid set of lists.
+fn ok_block(blk: &[u32]) -> bool
+    requires { ⌜ length (now blk) ≡ BLOCK ⌝ }
     ensures { λ r. ⌜ r ≡ okLists (listsOf (now (blk .entry))) ⌝ }
-    ensures { λ r. ⌜ (r ≡ true → Fresh (stamp + 2) (now (table .exit))) ⌝ }
 {
-    if !ok_pair(blk, Kind::Box, Kind::Port, table, stamp) {
+    if !ok_pair(blk, Kind::Box, Kind::Port) {
         return false;
     }
-    ok_pair(blk, Kind::Net, Kind::End, table, stamp + 1)
+    ok_pair(blk, Kind::Net, Kind::End)
 }
 
-// Lays the block now on the pile.
-fn lay(desk: &mut [u32])
-    requires { ⌜ DESK ≤ length (now desk) ⌝ }
-    ensures { λ _. ⌜ now (desk .exit) ≡ laid (now (desk .entry)) ⌝ }
+// Lays an entry on the pile.
+fn lay(desk: &mut [u32], entry: &[u32])
+    requires { ⌜ (DESK ≤ length (now desk)) × (length (now entry) ≡ ENTRY) ⌝ }
+    ensures { λ _. ⌜ now (desk .exit) ≡ laid (now (entry .entry)) (now (desk .entry)) ⌝ }
 {
     let depth = desk[0];
-    rows::move_up(desk, 1, NEXT, PILE);
+    rows::move_up(desk, NEXT, NEXT + ENTRY, LATER);
+    rows::put(desk, NEXT, entry);
     if depth < COPIES {
         desk[0] = depth + 1;
     } else {
@@ -395,13 +425,13 @@ fn lay(desk: &mut [u32])
     }
 }
 
-// Takes the block now off, so that the latest copy is the block now.
+// Takes the latest entry off.
 fn unlay(desk: &mut [u32])
     requires { ⌜ (DESK ≤ length (now desk)) × (0 < getD (now desk) 0 0) ⌝ }
-    ensures { λ _. ⌜ now (desk .exit) ≡ undone (now (desk .entry)) ⌝ }
+    ensures { λ _. ⌜ now (desk .exit) ≡ unlaid (now (desk .entry)) ⌝ }
 {
     let depth = desk[0];
-    rows::move_down(desk, 1, NEXT, PILE);
+    rows::move_down(desk, NEXT, NEXT + ENTRY, LATER);
     desk[0] = depth - 1;
 }
 
@@ -477,37 +507,149 @@ fn cut_record(blk: &mut [u32], kind: Kind, i: usize)
     rows::remove(&mut blk[a..a + size(kind)], width(kind), i);
 }
 
-fn ok_name(kind: Kind, name: u32) -> bool
-    ensures { λ r. ⌜ r ≡ okName kind name ⌝ }
+// The number of a name's field: an id is one, a place is none.
+fn name_number(kind: Kind, name: u32) -> u32
+    ensures { λ r. ⌜ r ≡ nameNumber kind name ⌝ }
 {
     match kind {
-        Kind::Box => ok_id(name),
-        Kind::Port => true,
-        Kind::Net => ok_id(name),
-        Kind::End => true,
+        Kind::Box => ranged(ok_id(name)),
+        Kind::Port => 0,
+        Kind::Net => ranged(ok_id(name)),
+        Kind::End => 0,
     }
 }
 
-// Whether every block from the lists now to the oldest copy is a valid set of lists. Each block has two stamps of its own.
-fn ok_blocks(desk: &[u32], depth: usize, table: &mut [u8]) -> bool
-    requires { ⌜ (DESK ≤ length (now desk)) × (depth ≡ getD (now desk) 0 0) × (depth ≤ COPIES) ⌝ }
-    requires { ⌜ Fresh 1 (now table) ⌝ }
-    ensures { λ r. ⌜ r ≡ valid (bookOf (now (desk .entry))) ⌝ }
+// What an entry says first of a kind.
+fn tag(kind: Kind) -> u32
+    ensures { λ r. ⌜ r ≡ tag-of kind ⌝ }
 {
-    let mut stamp: u8 = 1;
+    match kind {
+        Kind::Box => 0,
+        Kind::Port => 1,
+        Kind::Net => 2,
+        Kind::End => 3,
+    }
+}
+
+fn kind_of(n: u32) -> Kind
+    ensures { λ r. ⌜ r ≡ kindOf n ⌝ }
+{
+    if n == 0 {
+        return Kind::Box;
+    }
+    if n == 1 {
+        return Kind::Port;
+    }
+    if n == 2 {
+        return Kind::Net;
+    }
+    Kind::End
+}
+
+// Puts a row in at place i of the area of its kind.
+fn insert_record(blk: &mut [u32], kind: Kind, i: usize, row: &[u32])
+    requires { ⌜ Counted (now blk) ⌝ }
+    requires { ⌜ (length (now row) ≡ width-of kind) × (roomNumber kind (listOf kind (now blk)) ≡ 0) × (i ≤ count (area kind (now blk))) ⌝ }
+    ensures { λ _. ⌜ now (blk .exit) ≡ withRowAt kind i (now (row .entry)) (now (blk .entry)) ⌝ }
+{
+    let a = area_at(kind);
+    rows::insert(&mut blk[a..a + size(kind)], i, row);
+}
+
+// The first word of row i.
+fn id_at(blk: &[u32], kind: Kind, i: usize) -> u32
+    requires { ⌜ Counted (now blk) ⌝ }
+    requires { ⌜ i < count (area kind (now blk)) ⌝ }
+    ensures { λ r. ⌜ r ≡ key (getD (listOf kind (now (blk .entry))) i []) ⌝ }
+{
+    blk[area_at(kind) + (1 + i * width(kind))]
+}
+
+// Whether a record belongs to the one at place i.
+fn is_held(blk: &[u32], kind: Kind, i: usize) -> bool
+    requires { ⌜ Counted (now blk) ⌝ }
+    requires { ⌜ i < count (area kind (now blk)) ⌝ }
+    ensures { λ r. ⌜ r ≡ isHeld kind (listsOf (now (blk .entry))) i ⌝ }
+{
+    match kind {
+        Kind::Box => holds(blk, Kind::Port, id_at(blk, Kind::Box, i)),
+        Kind::Port => false,
+        Kind::Net => holds(blk, Kind::End, id_at(blk, Kind::Net, i)),
+        Kind::End => false,
+    }
+}
+
+// Undoes an addition: takes the last record of a kind out, if there is one and nothing belongs to it.
+fn take_out(blk: &mut [u32], kind: Kind) -> bool
+    requires { ⌜ (length (now blk) ≡ BLOCK) × (okLists (listsOf (now blk)) ≡ true) ⌝ }
+    ensures { λ r. ⌜ r ≡ okLists (before (out kind) (listsOf (now (blk .entry)))) ⌝ }
+    ensures { λ r. ⌜ (r ≡ true → now (blk .exit) ≡ blockBefore (out kind) (now (blk .entry))) ⌝ }
+{
+    let n = records(blk, kind);
+    if n == 0 {
+        return false;
+    }
+    if is_held(blk, kind, n - 1) {
+        return false;
+    }
+    cut_record(blk, kind, n - 1);
+    true
+}
+
+// Undoes a retirement: puts a record in at place i, if it could be added and the place is there.
+fn put_back(blk: &mut [u32], kind: Kind, i: usize, row: &[u32]) -> bool
+    requires { ⌜ (length (now blk) ≡ BLOCK) × (okLists (listsOf (now blk)) ≡ true) × (length (now row) ≡ width-of kind) ⌝ }
+    ensures { λ r. ⌜ r ≡ okLists (before (back kind i (now (row .entry))) (listsOf (now (blk .entry)))) ⌝ }
+    ensures { λ r. ⌜ (r ≡ true → now (blk .exit) ≡ blockBefore (back kind i (now (row .entry))) (now (blk .entry))) ⌝ }
+{
+    let n = records(blk, kind);
+    if n < i {
+        return false;
+    }
+    if !ok_record(kind, row) {
+        return false;
+    }
+    if add_number(blk, kind, row[0]) != 0 {
+        return false;
+    }
+    insert_record(blk, kind, i, row);
+    true
+}
+
+// Undoes a change, if the entry applies and leaves a valid set of lists.
+fn take_entry(blk: &mut [u32], entry: &[u32]) -> bool
+    requires { ⌜ (length (now blk) ≡ BLOCK) × (okLists (listsOf (now blk)) ≡ true) × (length (now entry) ≡ ENTRY) ⌝ }
+    ensures { λ r. ⌜ r ≡ okLists (before (entryOf (now (entry .entry))) (listsOf (now (blk .entry)))) ⌝ }
+    ensures { λ r. ⌜ (r ≡ true → now (blk .exit) ≡ blockBefore (entryOf (now (entry .entry))) (now (blk .entry))) ⌝ }
+{
+    let word = entry[0];
+    if word < KINDS {
+        return take_out(blk, kind_of(word));
+    }
+    if word < 2 * KINDS {
+        let kind = kind_of(word - KINDS);
+        return put_back(blk, kind, rows::wide(entry[1]), &entry[2..2 + width(kind)]);
+    }
+    false
+}
+
+// Whether the entries, taken in turn, apply and leave valid sets of lists. The block is scratch.
+fn ok_entries(pile: &[u32], depth: usize, blk: &mut [u32]) -> bool
+    requires { ⌜ (length (now pile) ≡ PILE) × (depth ≤ COPIES) × (length (now blk) ≡ BLOCK) × (okLists (listsOf (now blk)) ≡ true) ⌝ }
+    ensures { λ r. ⌜ r ≡ scan okCopy (copies (map entryOf (rows-of ENTRY depth (now (pile .entry)))) (listsOf (now (blk .entry)))) ⌝ }
+{
     let mut k = 0;
-    while k < depth + 1 {
-        let a = 1 + k * BLOCK;
-        if !ok_block(&desk[a..a + BLOCK], table, stamp) {
+    while k < depth {
+        let a = k * ENTRY;
+        if !take_entry(blk, &pile[a..a + ENTRY]) {
             return false;
         }
-        stamp += 2;
         k += 1;
     }
     true
 }
 
-// Whether the words are a desk. The table is made here.
+// Whether the words are a desk: the lists now, and on a copy of them the entries.
 fn ok_desk(desk: &[u32]) -> bool
     requires { ⌜ DESK ≤ length (now desk) ⌝ }
     ensures { λ r. ⌜ r ≡ valid (bookOf (now (desk .entry))) ⌝ }
@@ -516,8 +658,60 @@ fn ok_desk(desk: &[u32]) -> bool
     if rows::wide(COPIES) < depth {
         return false;
     }
-    let mut table: [u8; TABLE] = [0; TABLE];
-    ok_blocks(desk, depth, &mut table)
+    if !ok_block(&desk[1..NEXT]) {
+        return false;
+    }
+    let mut blk: [u32; BLOCK] = [0; BLOCK];
+    rows::put(&mut blk, 0, &desk[1..NEXT]);
+    ok_entries(&desk[NEXT..DESK], depth, &mut blk)
+}
+
+// What every call but reading tests first.
+pub fn validate(desk: &[u32]) -> u32
+    ensures { λ r. ⌜ r ≡ sized (now (desk .entry)) (answer (seenOf (now (desk .entry)) .sound) 0 0) ⌝ }
+{
+    if desk.len() < DESK {
+        return 1;
+    }
+    if !ok_desk(desk) {
+        return 2;
+    }
+    0
+}
+
+// Lays the entry of an addition.
+fn lay_added(desk: &mut [u32], kind: Kind)
+    requires { ⌜ DESK ≤ length (now desk) ⌝ }
+    ensures { λ _. ⌜ now (desk .exit) ≡ laid (outWords kind) (now (desk .entry)) ⌝ }
+{
+    let entry = [tag(kind), 0, 0, 0, 0, 0, 0];
+    lay(desk, &entry);
+}
+
+// Lays the entry of the retirement of record i.
+fn lay_retired(desk: &mut [u32], kind: Kind, i: usize)
+    requires { ⌜ DESK ≤ length (now desk) ⌝ }
+    requires { ⌜ Counted (block (now desk)) ⌝ }
+    requires { ⌜ i < count (area kind (block (now desk))) ⌝ }
+    ensures { λ _. ⌜ now (desk .exit) ≡ laid (backWords kind i (getD (listOf kind (block (now (desk .entry)))) i [])) (now (desk .entry)) ⌝ }
+{
+    let mut entry = [KINDS + tag(kind), i as u32, 0, 0, 0, 0, 0];
+    let w = width(kind);
+    let a = 2 + area_at(kind) + i * w;
+    rows::put(&mut entry, 2, &desk[a..a + w]);
+    lay(desk, &entry);
+}
+
+// Takes the latest entry off and undoes its change.
+fn take_latest(desk: &mut [u32])
+    requires { ⌜ Sound (now desk) ⌝ }
+    requires { ⌜ 0 < getD (now desk) 0 0 ⌝ }
+    ensures { λ _. ⌜ now (desk .exit) ≡ does Call.undo (now (desk .entry)) ⌝ }
+{
+    let mut entry = [0; ENTRY];
+    rows::put(&mut entry, 0, &desk[NEXT..NEXT + ENTRY]);
+    unlay(desk);
+    take_entry(&mut desk[1..NEXT], &entry);
 }
 
 // An addition.
@@ -526,20 +720,19 @@ fn add(desk: &mut [u32], kind: Kind, row: &[u32]) -> u32
     ensures { λ r. ⌜ r ≡ number (Call.add kind (now (row .entry))) (now (desk .entry)) ⌝ }
     ensures { λ _. ⌜ now (desk .exit) ≡ words (Call.add kind (now (row .entry))) (now (desk .entry)) ⌝ }
 {
-    if desk.len() < DESK {
-        return 1;
+    let sound = validate(desk);
+    if sound != 0 {
+        return sound;
     }
-    if !ok_desk(desk) {
-        return 2;
-    }
-    if !ok_record(kind, row) {
-        return 2;
+    let fields = fields_number(kind, row);
+    if fields != 0 {
+        return fields;
     }
     let number = add_number(&desk[1..NEXT], kind, row[0]);
     if number != 0 {
         return number;
     }
-    lay(desk);
+    lay_added(desk, kind);
     put_record(&mut desk[1..NEXT], kind, row);
     0
 }
@@ -549,40 +742,37 @@ fn retire(desk: &mut [u32], kind: Kind, name: u32) -> u32
     ensures { λ r. ⌜ r ≡ number (Call.retire kind name) (now (desk .entry)) ⌝ }
     ensures { λ _. ⌜ now (desk .exit) ≡ words (Call.retire kind name) (now (desk .entry)) ⌝ }
 {
-    if desk.len() < DESK {
-        return 1;
+    let sound = validate(desk);
+    if sound != 0 {
+        return sound;
     }
-    if !ok_desk(desk) {
-        return 2;
-    }
-    if !ok_name(kind, name) {
-        return 2;
+    let fields = name_number(kind, name);
+    if fields != 0 {
+        return fields;
     }
     let number = retire_number(&desk[1..NEXT], kind, name);
     if number != 0 {
         return number;
     }
     let i = spot(&desk[1..NEXT], kind, name);
-    lay(desk);
+    lay_retired(desk, kind, i);
     cut_record(&mut desk[1..NEXT], kind, i);
     0
 }
 
-// Puts the top copy back and takes it off.
+// Takes the latest entry off, which brings the copy of before its change back.
 pub fn undo(desk: &mut [u32]) -> u32
     ensures { λ r. ⌜ r ≡ number Call.undo (now (desk .entry)) ⌝ }
     ensures { λ _. ⌜ now (desk .exit) ≡ words Call.undo (now (desk .entry)) ⌝ }
 {
-    if desk.len() < DESK {
-        return 1;
-    }
-    if !ok_desk(desk) {
-        return 2;
+    let sound = validate(desk);
+    if sound != 0 {
+        return sound;
     }
     if desk[0] == 0 {
         return 7;
     }
-    unlay(desk);
+    take_latest(desk);
     0
 }
 
@@ -650,17 +840,4 @@ pub fn retire_end(desk: &mut [u32], at: u32) -> u32
     ensures { λ _. ⌜ now (desk .exit) ≡ words (Call.retire Kind.End at) (now (desk .entry)) ⌝ }
 {
     retire(desk, Kind::End, at)
-}
-
-// What every call but reading tests first.
-pub fn validate(desk: &[u32]) -> u32
-    ensures { λ r. ⌜ r ≡ sized (now (desk .entry)) (answer (valid (bookOf (now (desk .entry)))) true 0) ⌝ }
-{
-    if desk.len() < DESK {
-        return 1;
-    }
-    if !ok_desk(desk) {
-        return 2;
-    }
-    0
 }

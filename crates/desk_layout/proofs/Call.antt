@@ -16,13 +16,13 @@ use Rattle.page_graph.specs.Claims.{Placed}
 use Rattle.layout.specs.Answer.{layoutNumber as pageNumber}
 use Rattle.page_layout.specs.Drawing.{Drawing, drawing, laid}
 use Rattle.desk.specs.Sizes.{DESK}
-use Rattle.desk.specs.Book.{Lists, Book, okLists, valid, answer}
-use Rattle.desk.specs.Desk.{bookOf, sized}
+use Rattle.desk.specs.Book.{Lists, Seen, okLists, valid, ranged, answer}
+use Rattle.desk.specs.Desk.{bookOf, seenOf, sized}
 use Rattle.desk.proofs.Keeps.{lists-ok}
+use Rattle.desk.proofs.Whole.{sound-at, unsound-at}
 use Rattle.select.specs.Page.{flat, pageOf}
 use Rattle.select.proofs.Ok.{few-nets, few-ends}
 use Rattle.select.proofs.Asked.{asked, placed, page-is}
-use Rattle.select.proofs.Lent.{desk-valid, desk-invalid}
 use Rattle.desk_layout.specs.Layout.{Choice, choice, okChoice, layoutNumber, zeros, left, isLent, tested, says, shows, deskNumber, deskDrawing}
 use Rattle.desk_layout.proofs.Outputs.{laid-left}
 
@@ -32,23 +32,23 @@ module _ (ws : List ℕ) (d : Drawing) (q : Choice) where
   unfolding says shows
   says-1 e = rw e (refl, refl)
 
-  says-on : isLent (length ws) d ≡ true → (r : ℕ) (p : Drawing) → r ≡ tested (bookOf ws) q → p ≡ left r (bookOf ws .lists) q d
+  says-on : isLent (length ws) d ≡ true → (r : ℕ) (p : Drawing) → r ≡ tested (seenOf ws) q → p ≡ left r (bookOf ws .lists) q d
       → (r ≡ deskNumber ws d q) × (p ≡ deskDrawing ws d q)
   unfolding says shows
   says-on e r p er ep = rw e (er, ep ∙ ap (λ (n : ℕ). left n (bookOf ws .lists) q d) er)
 
 -- ---- 2
-module _ (b : Book) (q : Choice) (d : Drawing) where
-  refused-desk : valid b ≡ false → (p : Drawing) → p ≡ zeros d → (2 ≡ tested b q) × (p ≡ left 2 (b .lists) q d)
-  unfolding tested answer left
+module _ (s : Seen) (q : Choice) (d : Drawing) where
+  refused-desk : s .sound ≡ false → (p : Drawing) → p ≡ zeros d → (2 ≡ tested s q) × (p ≡ left 2 (s .lists) q d)
+  unfolding tested ranged answer left
   refused-desk e p ep = rw e (refl, ep)
 
-  refused-choice : valid b ≡ true → okChoice q ≡ false → (p : Drawing) → p ≡ zeros d → (2 ≡ tested b q) × (p ≡ left 2 (b .lists) q d)
-  unfolding tested answer left
+  refused-choice : s .sound ≡ true → okChoice q ≡ false → (p : Drawing) → p ≡ zeros d → (2 ≡ tested s q) × (p ≡ left 2 (s .lists) q d)
+  unfolding tested ranged answer left
   refused-choice v e p ep = rw (v, e) (refl, ep)
 
-  passed : valid b ≡ true → okChoice q ≡ true → (r : ℕ) → r ≡ layoutNumber (b .lists) → r ≡ tested b q
-  unfolding tested answer
+  passed : s .sound ≡ true → okChoice q ≡ true → (r : ℕ) → r ≡ layoutNumber (s .lists) → r ≡ tested s q
+  unfolding tested ranged answer
   passed v e r er = rw (v, e) er
 
 -- ---- the page of a valid desk, and what a layout of it leaves
@@ -90,21 +90,21 @@ module _ (ws : List ℕ) (prune separate : ℕ) (nets : List ℕ) (x y : List �
           let others = and-right (leb 512 (length x) && leb 512 (length y)) _ rest in
           (leb-true _ _ (and-left (leb DESK (length ws)) _ all), (leb-true _ _ (and-left (leb 320 (length nets)) _ lists), leb-true _ _ (and-left (leb 512 (length x)) _ places), leb-true _ _ (and-right (leb 512 (length x)) _ places), leb-true _ _ (and-left (leb 512 (length kinds)) _ others), leb-true _ _ (and-right (leb 512 (length kinds)) _ others)))
 
-      pub sizes-on : not b ≡ false → (r : ℕ) (p : Drawing) → (r ≡ tested (bookOf ws) Q) × (p ≡ left r (bookOf ws .lists) Q D)
+      pub sizes-on : not b ≡ false → (r : ℕ) (p : Drawing) → (r ≡ tested (seenOf ws) Q) × (p ≡ left r (bookOf ws .lists) Q D)
           → (r ≡ deskNumber ws D Q) × (p ≡ deskDrawing ws D Q)
       sizes-on t r p (er, ep) = says-on ws D Q (sym lent-is ∙ not-false b t) r p er ep
 
-  module _ (n : ℕ) (long : DESK ≤ length ws) (is : n ≡ sized ws (answer (valid (bookOf ws)) true 0)) where
-    pub lent-2 : (n ≡ 0 → ⊥) → (p : Drawing) → p ≡ zeros D → (2 ≡ tested (bookOf ws) Q) × (p ≡ left 2 (bookOf ws .lists) Q D)
-    lent-2 z p ep = refused-desk (bookOf ws) Q D (desk-invalid ws n long is z) p ep
+  module _ (n : ℕ) (long : DESK ≤ length ws) (is : n ≡ sized ws (answer (valid (bookOf ws)) 0 0)) where
+    pub lent-2 : (n ≡ 0 → ⊥) → (p : Drawing) → p ≡ zeros D → (2 ≡ tested (seenOf ws) Q) × (p ≡ left 2 (bookOf ws .lists) Q D)
+    lent-2 z p ep = refused-desk (seenOf ws) Q D (unsound-at ws n is long z) p ep
 
     module _ (z : n ≡ 0) (b : Bool) (eb : b ≡ okChoice Q) where
-      pub lent-2c : not b ≡ true → (p : Drawing) → p ≡ zeros D → (2 ≡ tested (bookOf ws) Q) × (p ≡ left 2 (bookOf ws .lists) Q D)
-      lent-2c t p ep = refused-choice (bookOf ws) Q D (desk-valid ws n long is z) (sym eb ∙ not-true b t) p ep
+      pub lent-2c : not b ≡ true → (p : Drawing) → p ≡ zeros D → (2 ≡ tested (seenOf ws) Q) × (p ≡ left 2 (bookOf ws .lists) Q D)
+      lent-2c t p ep = refused-choice (seenOf ws) Q D (sound-at ws n is z .book) (sym eb ∙ not-true b t) p ep
 
       pub lent-on : not b ≡ false → (r : ℕ) (p : Drawing) → (r ≡ layoutNumber (bookOf ws .lists)) × (p ≡ left r (bookOf ws .lists) Q D)
-          → (r ≡ tested (bookOf ws) Q) × (p ≡ left r (bookOf ws .lists) Q D)
-      lent-on t r p (er, ep) = (passed (bookOf ws) Q D (desk-valid ws n long is z) (sym eb ∙ not-false b t) r er, ep)
+          → (r ≡ tested (seenOf ws) Q) × (p ≡ left r (bookOf ws .lists) Q D)
+      lent-on t r p (er, ep) = (passed (seenOf ws) Q D (sound-at ws n is z .book) (sym eb ∙ not-false b t) r er, ep)
 
   module _ (v : valid (bookOf ws) ≡ true) (bs ps ns es : List ℕ) (nb np nn ne : ℕ) (eb : bs ≡ flat (bookOf ws .lists .boxes)) (ib : nb ≡ length (bookOf ws .lists .boxes))
       (ep : ps ≡ flat (bookOf ws .lists .ports)) (ip : np ≡ length (bookOf ws .lists .ports)) (en : ns ≡ flat (bookOf ws .lists .nets)) (in-is : nn ≡ length (bookOf ws .lists .nets))

@@ -10,8 +10,8 @@ use Rattle.layout.specs.Layout.{NET-ROW}
 use Rattle.layout.specs.Answer.{layoutNumber as pageNumber}
 use Rattle.page_layout.specs.Drawing.{Drawing, laid}
 use Rattle.desk.specs.Sizes.{DESK, NETS}
-use Rattle.desk.specs.Book.{Lists, Book, valid, answer}
-use Rattle.desk.specs.Desk.{bookOf}
+use Rattle.desk.specs.Book.{Lists, Seen, ranged, answer}
+use Rattle.desk.specs.Desk.{seenOf}
 use Rattle.select.specs.Page.{pageOf}
 
 -- ---- 'search and layout build their graph from the desk, pruned or not as the caller says; layout separates or not likewise': 1 for yes, 0 for no
@@ -62,26 +62,30 @@ NET-WORDS = NETS * NET-ROW
 abbrev pub JOIN-WORDS : ℕ
 JOIN-WORDS = 768
 
--- the desk is lent whole, and the lists have room for 64 nets, 512 vertices and 256 junctions
+-- the lists have room for 64 nets, 512 vertices and 256 junctions
+abbrev pub roomy : Drawing → Bool
+roomy d =
+    leb NET-WORDS (length (d .nets))
+    && ((leb VERTICES (length (d .xs)) && leb VERTICES (length (d .ys))) && (leb VERTICES (length (d .kinds)) && leb JOIN-WORDS (length (d .joins))))
+
+-- and the desk is lent whole
 unfoldable pub isLent : ℕ → Drawing → Bool
-isLent size d =
-    leb DESK size && (leb NET-WORDS (length (d .nets))
-    && ((leb VERTICES (length (d .xs)) && leb VERTICES (length (d .ys))) && (leb VERTICES (length (d .kinds)) && leb JOIN-WORDS (length (d .joins)))))
+isLent size d = leb DESK size && roomy d
 
 -- 2 comes before 8
-unfoldable pub tested : Book → Choice → ℕ
-tested b q = answer (valid b) (okChoice q) (layoutNumber (b .lists))
+unfoldable pub tested : Seen → Choice → ℕ
+tested s q = answer (s .sound) (ranged (okChoice q)) (layoutNumber (s .lists))
 
-unfoldable pub says : ℕ → Drawing → Choice → Book → ℕ
-says size d q b = cond (isLent size d) (tested b q) 1
+unfoldable pub says : ℕ → Drawing → Choice → Seen → ℕ
+says size d q s = cond (isLent size d) (tested s q) 1
 
 -- 'everything unchanged' at 1
-unfoldable pub shows : ℕ → Drawing → Choice → Book → Drawing
-shows size d q b = cond (isLent size d) (left (tested b q) (b .lists) q d) d
+unfoldable pub shows : ℕ → Drawing → Choice → Seen → Drawing
+shows size d q s = cond (isLent size d) (left (tested s q) (s .lists) q d) d
 
 -- on the words of a desk: what the function's contract says
 abbrev pub deskNumber : List ℕ → Drawing → Choice → ℕ
-deskNumber ws d q = says (length ws) d q (bookOf ws)
+deskNumber ws d q = says (length ws) d q (seenOf ws)
 
 abbrev pub deskDrawing : List ℕ → Drawing → Choice → Drawing
-deskDrawing ws d q = shows (length ws) d q (bookOf ws)
+deskDrawing ws d q = shows (length ws) d q (seenOf ws)

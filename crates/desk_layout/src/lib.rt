@@ -6,7 +6,7 @@ ghost use lib.Dec.{leb};
 ghost use lib.ListN.{length};
 ghost use Rattle.desk.specs.Sizes.{DESK};
 ghost use Rattle.desk.specs.Book.{valid};
-ghost use Rattle.desk.specs.Desk.{bookOf};
+ghost use Rattle.desk.specs.Desk.{bookOf, seenOf};
 ghost use Rattle.page_layout.specs.Drawing.{drawing};
 ghost use Rattle.desk_layout.specs.Layout.{choice, okChoice, layoutNumber, zeros, left, tested, deskNumber, deskDrawing};
 
@@ -99,7 +99,7 @@ fn layout_lent(
 ) -> u32
     requires { ⌜ DESK ≤ length (now desk) ⌝ }
     requires { ⌜ (320 ≤ length (now nets)) × (512 ≤ length (now x)) × (512 ≤ length (now y)) × (512 ≤ length (now kinds)) × (768 ≤ length (now joins)) ⌝ }
-    ensures { λ r. ⌜ r ≡ tested (bookOf (now (desk .entry))) (choice prune separate) ⌝ }
+    ensures { λ r. ⌜ r ≡ tested (seenOf (now (desk .entry))) (choice prune separate) ⌝ }
     ensures { λ r. ⌜ drawing (now (nets .exit)) (now (x .exit)) (now (y .exit)) (now (kinds .exit)) (now (joins .exit)) ≡ left r (bookOf (now (desk .entry)) .lists) (choice prune separate) (drawing (now (nets .entry)) (now (x .entry)) (now (y .entry)) (now (kinds .entry)) (now (joins .entry))) ⌝ }
 {
     if desk::validate(desk) != 0 {

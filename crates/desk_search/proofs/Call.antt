@@ -21,12 +21,12 @@ use Rattle.page_search.specs.Page.{PageSearched, searchNumber as pageNumber, se
 use Rattle.page_search.specs.Exists.{Sound, PageTold}
 use Rattle.page_search.proofs.Theorem.{page-searches}
 use Rattle.desk.specs.Sizes.{DESK}
-use Rattle.desk.specs.Book.{Lists, Book, okLists, okPlace, valid, answer}
-use Rattle.desk.specs.Desk.{bookOf, sized}
+use Rattle.desk.specs.Book.{Lists, Seen, okLists, okPlace, valid, ranged, answer}
+use Rattle.desk.specs.Desk.{bookOf, seenOf, sized}
 use Rattle.desk.proofs.Keeps.{lists-ok}
+use Rattle.desk.proofs.Whole.{sound-at, unsound-at}
 use Rattle.select.specs.Page.{flat, pageOf}
 use Rattle.select.proofs.Asked.{asked, page-is}
-use Rattle.select.proofs.Lent.{desk-valid, desk-invalid}
 use Rattle.desk_search.specs.Query.{Query, ENDS, query, okEnds, okQuery, isPruned}
 use Rattle.desk_search.specs.Search.{Outputs, outputs, isLent, graphOf, searchNumber, searchLine, written, left, zeros, tested, says, shows, deskNumber, deskOutputs}
 use Rattle.desk_search.proofs.Exists.{sound}
@@ -49,23 +49,23 @@ module _ (ws : List ℕ) (o : Outputs) (q : Query) where
   unfolding says shows
   says-1 e = rw e (refl, refl)
 
-  pub says-on : isLent (length ws) o ≡ true → (r : ℕ) (p : Outputs) → r ≡ tested (bookOf ws) q → p ≡ left r (bookOf ws .lists) q o
+  pub says-on : isLent (length ws) o ≡ true → (r : ℕ) (p : Outputs) → r ≡ tested (seenOf ws) q → p ≡ left r (bookOf ws .lists) q o
       → (r ≡ deskNumber ws o q) × (p ≡ deskOutputs ws o q)
   unfolding says shows
   says-on e r p er ep = rw e (er, ep ∙ ap (λ (n : ℕ). left n (bookOf ws .lists) q o) er)
 
 -- ---- 2
-module _ (b : Book) (q : Query) (o : Outputs) where
-  pub refused-desk : valid b ≡ false → (p : Outputs) → p ≡ zeros o → (2 ≡ tested b q) × (p ≡ left 2 (b .lists) q o)
-  unfolding tested answer left
+module _ (s : Seen) (q : Query) (o : Outputs) where
+  pub refused-desk : s .sound ≡ false → (p : Outputs) → p ≡ zeros o → (2 ≡ tested s q) × (p ≡ left 2 (s .lists) q o)
+  unfolding tested ranged answer left
   refused-desk e p ep = rw e (refl, ep)
 
-  pub refused-query : valid b ≡ true → okQuery q ≡ false → (p : Outputs) → p ≡ zeros o → (2 ≡ tested b q) × (p ≡ left 2 (b .lists) q o)
-  unfolding tested answer left
+  pub refused-query : s .sound ≡ true → okQuery q ≡ false → (p : Outputs) → p ≡ zeros o → (2 ≡ tested s q) × (p ≡ left 2 (s .lists) q o)
+  unfolding tested ranged answer left
   refused-query v e p ep = rw (v, e) (refl, ep)
 
-  pub passed : valid b ≡ true → okQuery q ≡ true → (r : ℕ) → r ≡ searchNumber (b .lists) q → r ≡ tested b q
-  unfolding tested answer
+  pub passed : s .sound ≡ true → okQuery q ≡ true → (r : ℕ) → r ≡ searchNumber (s .lists) q → r ≡ tested s q
+  unfolding tested ranged answer
   passed v e r er = rw (v, e) er
 
 -- ---- without 0 there is no line
@@ -132,9 +132,9 @@ query-ends prune x y ex ey e =
       most = omega (arith, leb-true (length (ups ex)) ENDS (and-right (eqb (length (ups ex)) (length (ups ey))) _ t), length-ups ex);
     }
 
-pub pass-all : (b : Book) (q : Query) (o p : Outputs) (r : ℕ) → valid b ≡ true → okQuery q ≡ true → (r ≡ searchNumber (b .lists) q) × (p ≡ left r (b .lists) q o)
-    → (r ≡ tested b q) × (p ≡ left r (b .lists) q o)
-pass-all b q o p r v e (er, ep) = (passed b q o v e r er, ep)
+pub pass-all : (s : Seen) (q : Query) (o p : Outputs) (r : ℕ) → s .sound ≡ true → okQuery q ≡ true → (r ≡ searchNumber (s .lists) q) × (p ≡ left r (s .lists) q o)
+    → (r ≡ tested s q) × (p ≡ left r (s .lists) q o)
+pass-all s q o p r v e (er, ep) = (passed s q o v e r er, ep)
 
 -- ---- at each return, over what is lent
 module _ (ws : List ℕ) (prune x y : ℕ) (ex ey lx ly : List ℤ) (kinds dirs : List ℕ) where
@@ -153,24 +153,24 @@ module _ (ws : List ℕ) (prune x y : ℕ) (ex ey lx ly : List ℤ) (kinds dirs 
   pub steps-long : (b : Bool) → b ≡ size-test → not b ≡ false → DESK ≤ length ws
   steps-long b e t = lent-desk (length ws) O (sym (lent-is (length ws) lx ly kinds dirs b e) ∙ not-false b t)
 
-  pub steps-on : (b : Bool) → b ≡ size-test → not b ≡ false → (r : ℕ) (p : Outputs) → (r ≡ tested (bookOf ws) Q) × (p ≡ left r (bookOf ws .lists) Q O)
+  pub steps-on : (b : Bool) → b ≡ size-test → not b ≡ false → (r : ℕ) (p : Outputs) → (r ≡ tested (seenOf ws) Q) × (p ≡ left r (bookOf ws .lists) Q O)
       → (r ≡ deskNumber ws O Q) × (p ≡ deskOutputs ws O Q)
   steps-on b e t r p (er, ep) = says-on ws O Q (sym (lent-is (length ws) lx ly kinds dirs b e) ∙ not-false b t) r p er ep
 
-  module _ (n : ℕ) (long : DESK ≤ length ws) (is : n ≡ sized ws (answer (valid (bookOf ws)) true 0)) where
-    pub lent-2 : (n ≡ 0 → ⊥) → (p : Outputs) → p ≡ zeros O → (2 ≡ tested (bookOf ws) Q) × (p ≡ left 2 (bookOf ws .lists) Q O)
-    lent-2 z p ep = refused-desk (bookOf ws) Q O (desk-invalid ws n long is z) p ep
+  module _ (n : ℕ) (long : DESK ≤ length ws) (is : n ≡ sized ws (answer (valid (bookOf ws)) 0 0)) where
+    pub lent-2 : (n ≡ 0 → ⊥) → (p : Outputs) → p ≡ zeros O → (2 ≡ tested (seenOf ws) Q) × (p ≡ left 2 (bookOf ws .lists) Q O)
+    lent-2 z p ep = refused-desk (seenOf ws) Q O (unsound-at ws n is long z) p ep
 
     module _ (z : n ≡ 0) (b : Bool) (eb : b ≡ okQuery Q) where
-      pub lent-2q : not b ≡ true → (p : Outputs) → p ≡ zeros O → (2 ≡ tested (bookOf ws) Q) × (p ≡ left 2 (bookOf ws .lists) Q O)
-      lent-2q t p ep = refused-query (bookOf ws) Q O (desk-valid ws n long is z) (sym eb ∙ not-true b t) p ep
+      pub lent-2q : not b ≡ true → (p : Outputs) → p ≡ zeros O → (2 ≡ tested (seenOf ws) Q) × (p ≡ left 2 (bookOf ws .lists) Q O)
+      lent-2q t p ep = refused-query (seenOf ws) Q O (sound-at ws n is z .book) (sym eb ∙ not-true b t) p ep
 
       pub lent-asks : not b ≡ false → (valid (bookOf ws) ≡ true) × (okQuery Q ≡ true)
-      lent-asks t = (desk-valid ws n long is z, sym eb ∙ not-false b t)
+      lent-asks t = (sound-at ws n is z .book, sym eb ∙ not-false b t)
 
       pub lent-on : not b ≡ false → (r : ℕ) (p : Outputs) → (r ≡ searchNumber (bookOf ws .lists) Q) × (p ≡ left r (bookOf ws .lists) Q O)
-          → (r ≡ tested (bookOf ws) Q) × (p ≡ left r (bookOf ws .lists) Q O)
-      lent-on t r p h = pass-all (bookOf ws) Q O p r (desk-valid ws n long is z) (sym eb ∙ not-false b t) h
+          → (r ≡ tested (seenOf ws) Q) × (p ≡ left r (bookOf ws .lists) Q O)
+      lent-on t r p h = pass-all (seenOf ws) Q O p r (sound-at ws n is z .book) (sym eb ∙ not-false b t) h
 
   module _ (v : valid (bookOf ws) ≡ true) (bs ps ns es : List ℕ) (nb np nn ne : ℕ) (eb : bs ≡ flat (bookOf ws .lists .boxes)) (ib : nb ≡ length (bookOf ws .lists .boxes))
       (ep : ps ≡ flat (bookOf ws .lists .ports)) (ip : np ≡ length (bookOf ws .lists .ports)) (en : ns ≡ flat (bookOf ws .lists .nets)) (in-is : nn ≡ length (bookOf ws .lists .nets))

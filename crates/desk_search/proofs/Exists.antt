@@ -11,8 +11,8 @@ use Rattle.page_graph.specs.Page.{crowded, page-graph}
 use Rattle.page_search.specs.Page.{searchNumber as pageNumber}
 use Rattle.page_search.specs.Exists.{Sound, Owned, Holds as PageHolds, port as page-port, unported}
 use Rattle.page_search.proofs.Theorem.{page-line-exists}
-use Rattle.desk.specs.Book.{Lists, Book, okLists, valid, answer}
-use Rattle.desk.specs.Desk.{bookOf}
+use Rattle.desk.specs.Book.{Lists, Book, okLists, seen, valid, ranged, answer}
+use Rattle.desk.specs.Desk.{bookOf, seenOf}
 use Rattle.desk.specs.declared.Kind.{Kind}
 use Rattle.desk.proofs.Keeps.{lists-ok}
 use Rattle.select.specs.Page.{pageOf}
@@ -65,16 +65,19 @@ unfolding searchNumber pageNumber
 crowded-8 l q e = rw e
 
 module _ (b : Book) (q : Query) (h : AllHold (b .lists) q) where
-  tested-decided : (tested b q ≡ 2 → ⊥) → (tested b q ≡ 8 → ⊥) → Decided (b .lists) q (tested b q)
-  unfolding tested answer
+  -- by whether the desk is sound and the arguments keep their ranges
+  abbrev by-tests : Bool → Bool → ℕ
+  by-tests v f = answer v (ranged f) (searchNumber (b .lists) q)
+
+  tested-decided : (tested (seen b) q ≡ 2 → ⊥) → (tested (seen b) q ≡ 8 → ⊥) → Decided (b .lists) q (tested (seen b) q)
+  unfolding tested answer ranged
   tested-decided n₂ n₈ = go (valid b) refl (okQuery q) n₂ n₈
     where
       by : okLists (b .lists) ≡ true → (t : Bool) → crowded (pageOf (b .lists)) ≡ t → (searchNumber (b .lists) q ≡ 8 → ⊥) → Decided (b .lists) q (searchNumber (b .lists) q)
       by ok true e n = absurd (n (crowded-8 (b .lists) q e))
       by ok false e n = decided (b .lists) ok q e h
 
-      go : (v : Bool) → valid b ≡ v → (f : Bool) → (cond (v && f) (searchNumber (b .lists) q) 2 ≡ 2 → ⊥) → (cond (v && f) (searchNumber (b .lists) q) 2 ≡ 8 → ⊥)
-          → Decided (b .lists) q (cond (v && f) (searchNumber (b .lists) q) 2)
+      go : (v : Bool) → valid b ≡ v → (f : Bool) → (by-tests v f ≡ 2 → ⊥) → (by-tests v f ≡ 8 → ⊥) → Decided (b .lists) q (by-tests v f)
       go true e true a c = by (lists-ok b e) (crowded (pageOf (b .lists))) refl c
       go true e false a c = absurd (a refl)
       go false e f a c = absurd (a refl)
@@ -83,7 +86,7 @@ pub search-decides : SearchDecides
 unfolding says
 search-decides ws o q n₁ n₂ n₈ h = go (isLent (length ws) o) n₁ n₂ n₈
   where
-    go : (t : Bool) → (cond t (tested (bookOf ws) q) 1 ≡ 1 → ⊥) → (cond t (tested (bookOf ws) q) 1 ≡ 2 → ⊥) → (cond t (tested (bookOf ws) q) 1 ≡ 8 → ⊥)
-        → Decided (bookOf ws .lists) q (cond t (tested (bookOf ws) q) 1)
+    go : (t : Bool) → (cond t (tested (seenOf ws) q) 1 ≡ 1 → ⊥) → (cond t (tested (seenOf ws) q) 1 ≡ 2 → ⊥) → (cond t (tested (seenOf ws) q) 1 ≡ 8 → ⊥)
+        → Decided (bookOf ws .lists) q (cond t (tested (seenOf ws) q) 1)
     go true a b c = tested-decided (bookOf ws) q h b c
     go false a b c = absurd (a refl)

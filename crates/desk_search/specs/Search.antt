@@ -12,8 +12,8 @@ use Rattle.path_finding.specs.Line.{table, place-at, kind-at, direction-at}
 use Rattle.page_graph.specs.Page.{page-graph}
 use Rattle.page_search.specs.Page.{searchNumber as pageNumber, searchLine as pageLine}
 use Rattle.desk.specs.Sizes.{DESK}
-use Rattle.desk.specs.Book.{Lists, Book, valid, answer}
-use Rattle.desk.specs.Desk.{bookOf}
+use Rattle.desk.specs.Book.{Lists, Seen, ranged, answer}
+use Rattle.desk.specs.Desk.{seenOf}
 use Rattle.select.specs.Page.{pageOf}
 use Rattle.desk_search.specs.Query.{Query, isPruned, okQuery}
 
@@ -66,25 +66,28 @@ left n l q o = cond (eqb n 0) (written (graphOf l q) (searchLine l q) o) (zeros 
 
 -- ---- of a call that is lent `size` words of the desk
 
--- the desk is lent whole, and the lists have room for 4,096 nodes
+-- the lists have room for 4,096 nodes
+abbrev pub roomy : Outputs → Bool
+roomy o = (leb NODES (length (o .xs)) && leb NODES (length (o .ys))) && (leb NODES (length (o .kinds)) && leb NODES (length (o .dirs)))
+
+-- and the desk is lent whole
 unfoldable pub isLent : ℕ → Outputs → Bool
-isLent size o =
-    leb DESK size && ((leb NODES (length (o .xs)) && leb NODES (length (o .ys))) && (leb NODES (length (o .kinds)) && leb NODES (length (o .dirs))))
+isLent size o = leb DESK size && roomy o
 
 -- 2 comes before the numbers of the search
-unfoldable pub tested : Book → Query → ℕ
-tested b q = answer (valid b) (okQuery q) (searchNumber (b .lists) q)
+unfoldable pub tested : Seen → Query → ℕ
+tested s q = answer (s .sound) (ranged (okQuery q)) (searchNumber (s .lists) q)
 
-unfoldable pub says : ℕ → Outputs → Query → Book → ℕ
-says size o q b = cond (isLent size o) (tested b q) 1
+unfoldable pub says : ℕ → Outputs → Query → Seen → ℕ
+says size o q s = cond (isLent size o) (tested s q) 1
 
 -- 'everything unchanged' at 1
-unfoldable pub shows : ℕ → Outputs → Query → Book → Outputs
-shows size o q b = cond (isLent size o) (left (tested b q) (b .lists) q o) o
+unfoldable pub shows : ℕ → Outputs → Query → Seen → Outputs
+shows size o q s = cond (isLent size o) (left (tested s q) (s .lists) q o) o
 
 -- on the words of a desk: what the function's contract says
 abbrev pub deskNumber : List ℕ → Outputs → Query → ℕ
-deskNumber ws o q = says (length ws) o q (bookOf ws)
+deskNumber ws o q = says (length ws) o q (seenOf ws)
 
 abbrev pub deskOutputs : List ℕ → Outputs → Query → Outputs
-deskOutputs ws o q = shows (length ws) o q (bookOf ws)
+deskOutputs ws o q = shows (length ws) o q (seenOf ws)

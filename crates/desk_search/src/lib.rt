@@ -10,7 +10,7 @@ ghost use Rattle.rows.specs.Rows.{scan};
 ghost use Rattle.nodes.specs.Graph.{NODES};
 ghost use Rattle.desk.specs.Sizes.{DESK};
 ghost use Rattle.desk.specs.Book.{valid};
-ghost use Rattle.desk.specs.Desk.{bookOf};
+ghost use Rattle.desk.specs.Desk.{bookOf, seenOf};
 ghost use Rattle.desk_search.specs.Query.{query, okStep, okEnds, okQuery};
 ghost use Rattle.desk_search.specs.Search.{outputs, zeros, searchNumber, left, tested, deskNumber, deskOutputs};
 
@@ -133,7 +133,7 @@ fn search_lent(
     dirs: &mut [u8],
 ) -> u32
     requires { ⌜ DESK ≤ length (now desk) ⌝ }
-    ensures { λ r. ⌜ r ≡ tested (bookOf (now (desk .entry))) (query prune x y (now (ex .entry)) (now (ey .entry))) ⌝ }
+    ensures { λ r. ⌜ r ≡ tested (seenOf (now (desk .entry))) (query prune x y (now (ex .entry)) (now (ey .entry))) ⌝ }
     ensures { λ r. ⌜ outputs (now (lx .exit)) (now (ly .exit)) (now (kinds .exit)) (now (dirs .exit)) ≡ left r (bookOf (now (desk .entry)) .lists) (query prune x y (now (ex .entry)) (now (ey .entry))) (outputs (now (lx .entry)) (now (ly .entry)) (now (kinds .entry)) (now (dirs .entry))) ⌝ }
 {
     if desk::validate(desk) != 0 {

@@ -13,8 +13,8 @@ use Rattle.fixed.proofs.Lists.{length-ups}
 use Rattle.anchors.specs.Records.{Records}
 use Rattle.page_graph.specs.Page.{crowded}
 use Rattle.desk.specs.Sizes.{DESK}
-use Rattle.desk.specs.Book.{Lists, valid, answer}
-use Rattle.desk.specs.Desk.{bookOf}
+use Rattle.desk.specs.Book.{Lists, valid, ranged, answer}
+use Rattle.desk.specs.Desk.{bookOf, seenOf}
 use Rattle.desk.proofs.Keeps.{lists-ok}
 use Rattle.select.specs.Page.{flat, pageOf}
 use Rattle.select.proofs.Ok.{few-nets}
@@ -74,8 +74,8 @@ module _ (ws : List ℕ) (long : DESK ≤ length ws) (v : valid (bookOf ws) ≡ 
   unfolding okChoice
   ok = rw (le-leb prune 1 hp, le-leb separate 1 hs)
 
-  by-page : tested (bookOf ws) (choice prune separate) ≡ cond (crowded (pageOf l)) 8 0
-  unfolding tested answer layoutNumber pageNumber
+  by-page : tested (seenOf ws) (choice prune separate) ≡ cond (crowded (pageOf l)) 8 0
+  unfolding tested ranged answer layoutNumber pageNumber
   by-page = rw (v, ok)
 
   number-is : n ≡ cond (crowded (pageOf l)) 8 0
@@ -101,7 +101,7 @@ module _ (ws : List ℕ) (long : DESK ≤ length ws) (v : valid (bookOf ws) ≡ 
   laid-as : n ≡ 0 → e ≡ laid (pageOf l) (eqb prune 1) (eqb separate 1) d
   unfolding shows left
   laid-as h =
-      let t : tested (bookOf ws) (choice prune separate) ≡ 0 = by-page ∙ rw (is-clear h) in
+      let t : tested (seenOf ws) (choice prune separate) ≡ 0 = by-page ∙ rw (is-clear h) in
       leaves ∙ rw (lent, t)
 
   pub drawing-fits : n ≡ 0 → Fits e (length (l .nets))

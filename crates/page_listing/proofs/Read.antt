@@ -6,7 +6,7 @@ use Prim.Native.Nat.{ℕ, _≤_}
 use borrow.Author.Tests.{le-leb, eq-eqb, ne-eqb}
 use lib.ListN.{length, getD}
 use Rattle.desk.specs.Sizes.{DESK}
-use Rattle.desk.specs.Book.{Book, valid}
+use Rattle.desk.specs.Book.{bookWith, Book, valid}
 use Rattle.desk.specs.Desk.{bookOf}
 use Rattle.page_text.specs.Reading.{readText}
 use Rattle.page_text.specs.Words.{REFUSAL, isLent, readNumber, readWords, readRefusal, told}
@@ -26,7 +26,7 @@ module _ (text ws out : List ℕ) (long : DESK ≤ length ws) (two : REFUSAL ≤
   unfolding readNumber
   number-is = is ∙ rw lent
 
-  book-is : bookOf ws₁ ≡ record { lists = readText text .lists; pile = [] }
+  book-is : bookOf ws₁ ≡ bookWith (readText text .lists)
   unfolding readWords
   book-is = ap bookOf (leaves ∙ rw lent) ∙ decoded text ws long
 

@@ -6,16 +6,15 @@ use mathlib.Core.Bool.{Bool, true, false}
 use mathlib.Core.List.{List}
 use Prim.Native.Nat.{ℕ, zero, suc, _+_, _*_, _<_, _≤_}
 use native.Mathlib.Omega.{arith}
-use lib.Dec.{eqb}
 use lib.ListN.{length, getD, replicate, length-replicate}
 use Rattle.fixed.specs.Up.{BIAS}
-use Rattle.fixed.proofs.Bools.{and-right}
 use Rattle.decimals.specs.Decimal.{BASE}
 use Rattle.wire.specs.Wires.{vertices}
 use Rattle.page_graph.specs.Page.{crowded}
 use Rattle.page_laws.proofs.Ranges.{blank-page}
 use Rattle.desk.specs.declared.Kind.{Kind}
-use Rattle.desk.specs.Book.{Record, Lists, width, okRecord, okLists}
+use Rattle.desk.proofs.Fields.{record-ranged}
+use Rattle.desk.specs.Book.{Record, Lists, okRecord, okLists}
 use Rattle.select.specs.Page.{flat, pageOf}
 use Rattle.select.proofs.Listed.{words-low}
 use Rattle.select.proofs.Ok.{nets, few-nets}
@@ -93,8 +92,7 @@ module _ (l : Lists) (ok : okLists l ≡ true) (clear : crowded (pageOf l) ≡ f
 -- ---- the listing, of rows that are words of 32 bits
 
 id-low : (r : Record) → okRecord Kind.Net r ≡ true → (j : ℕ) → j < 1 → getD r j 0 < BASE
-unfolding okRecord
-id-low r e zero h = id-fits (getD r 0 0) (and-right (eqb (length r) (width Kind.Net)) _ e)
+id-low r e zero h = id-fits (getD r 0 0) (record-ranged Kind.Net r e)
 id-low r e (suc j) h = absurd (omega arith)
 
 ids-low : (l : Lists) → okLists l ≡ true → (i : ℕ) → getD (flat (l .nets)) i 0 < BASE

@@ -6,7 +6,7 @@ use mathlib.Core.List.{List, [], _∷_, _++_}
 use Rattle.decimals.specs.Bytes.{onto, split, same}
 use Rattle.decimals.specs.Decimal.{isDigit, digitsOnly, isEmpty, natural, reads, cap, amount, plain, value}
 use Rattle.rows.specs.Rows.{key, isIn, place}
-use Rattle.desk.specs.Book.{Lists, noLists, okId, okPlace, okRecord, answer, takeNumber, newNumber, knownNumber, roomNumber, withRecord}
+use Rattle.desk.specs.Book.{Lists, noLists, okId, okPlace, okRecord, fieldsNumber, ranged, answer, takeNumber, newNumber, knownNumber, roomNumber, withRecord}
 use Rattle.page_line.specs.Fields.{allPlain, values, idWord, stepWord, smallWord, word, rowOf}
 use Rattle.page_line.specs.Records.{kindOf, shape, recordOf, lineOf}
 use Rattle.page_line.specs.Lines.{ended, linesOf, textLines}
@@ -46,6 +46,6 @@ cases :
     )
     ≡ accepted noLists ∷ accepted sample ∷ refused 1 0 ∷ refused 1 2 ∷ refused 2 3 ∷ refused 1 4 ∷ []
 unfolding readings net-1 end-1 end-2 sample onto split same isDigit digitsOnly isEmpty natural reads cap amount plain value key isIn place
-    okId okPlace okRecord answer takeNumber newNumber knownNumber roomNumber withRecord allPlain values idWord stepWord smallWord word rowOf
+    okId okPlace okRecord fieldsNumber ranged answer takeNumber newNumber knownNumber roomNumber withRecord allPlain values idWord stepWord smallWord word rowOf
     kindOf shape recordOf lineOf ended linesOf textLines stepOf takes adds onward feed readText
 cases = refl

@@ -7,9 +7,10 @@ use lib.ListN.{length}
 use lib.Dec.{eqb}
 use Rattle.rows.specs.Rows.{key, scan}
 use Rattle.desk.specs.Sizes.{DESK}
-use Rattle.desk.specs.Book.{Lists, noLists, okRecord, okLists, okOwners, okMembers, okCopy, valid, answer, addNumber, takeNumber}
+use Rattle.desk.specs.Book.{Lists, noLists, bookWith, fieldsNumber, okLists, okOwners, okMembers, okCopy, valid, addNumber, takeNumber}
 use Rattle.desk.specs.Desk.{Ready, block, listsOf, emptied, taken, at0}
 use Rattle.desk.proofs.Decode.{length-emptied, ready-emptied}
+use Rattle.desk.proofs.Fields.{answer-0, record-of-0}
 use Rattle.desk.proofs.Keeps
 use Rattle.page_line.specs.Records.{Line, entry, malformed}
 use Rattle.page_line.specs.Lines.{textLines}
@@ -18,7 +19,7 @@ use Rattle.page_text.specs.Reading.{stepOf, takes, adds, onward, feed, r
 use Rattle.page_text.specs.Words.{leaves, onwardWords, feedWords, textWords}
 use Rattle.page_text.specs.declared.Step.{Step}
 use Rattle.page_text.specs.declared.Step.the-variants.{Went, Bad}
-use Rattle.page_text.proofs.Turns.{After, after, bad-went, step-0, answer-0}
+use Rattle.page_text.proofs.Turns.{After, after, bad-went, step-0}
 
 -- ---- the length
 -- a line that stops the reading leaves the words as they were
@@ -49,8 +50,8 @@ length-text text ws h = length-feed (emptied ws) (textLines text) (ready-emptied
 pub ok-adds : (x : Line) (l : Lists) → okLists l ≡ true → takes x l ≡ Went → okLists (adds x l) ≡ true
 unfolding takes adds takeNumber
 ok-adds (entry k r) l ok e =
-    let p = answer-0 (okRecord k r) (addNumber k l (key r)) (step-0 (takeNumber k r l) e) in
-    Keeps.ok-with l ok k r (p .0) (p .1)
+    let p = answer-0 true (fieldsNumber k r) (addNumber k l (key r)) (step-0 (takeNumber k r l) e) in
+    Keeps.ok-with l ok k r (record-of-0 k r (p .1)) (p .2)
 ok-adds malformed l ok e = bad-went 0 e
 
 pub none-ok : okLists noLists ≡ true
@@ -71,7 +72,7 @@ pub ok-text : (text : List ℕ) → okLists (readText text .lists) ≡ true
 unfolding readText
 ok-text text = ok-feed 0 noLists (textLines text) none-ok
 
--- lists that keep their limits are a valid book, without a pile
-pub valid-lists : (l : Lists) → okLists l ≡ true → valid (record { lists = l; pile = [] }) ≡ true
+-- lists that keep their limits are a valid book
+pub valid-lists : (l : Lists) → okLists l ≡ true → valid (bookWith l) ≡ true
 unfolding valid scan okCopy
 valid-lists l ok = rw ok

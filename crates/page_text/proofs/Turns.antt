@@ -12,10 +12,11 @@ use Rattle.decimals.specs.Decimal.{isEmpty}
 use Rattle.rows.specs.Rows.{key, count}
 use Rattle.desk.specs.declared.Kind.{Kind}
 use Rattle.desk.specs.Sizes.{DESK}
-use Rattle.desk.specs.Book.{Record, Lists, Book, noLists, width, most, okRecord, addNumber, answer, takeNumber, withRecord}
+use Rattle.desk.specs.Book.{Record, Lists, noLists, bookWith, width, most, fieldsNumber, addNumber, takeNumber, withRecord}
 use Rattle.desk.specs.Desk.{Ready, area, at0, block, bookOf, emptied, listsOf, taken}
+use Rattle.desk.proofs.Fields.{answer-0}
 use Rattle.desk.proofs.Blocks.{length-list, room-0, room-of}
-use Rattle.desk.proofs.Decode.{book-emptied, book-taken, length-taken, ready-emptied, ready-taken}
+use Rattle.desk.proofs.Decode.{Settled, book-settled, book-emptied, lists-emptied, settled-emptied, lists-taken, settled-taken, length-taken, ready-emptied, ready-taken}
 use Rattle.page_line.specs.Records.{Line, entry, malformed}
 use Rattle.page_line.specs.Lines.{lineAt, linesOf, textLines}
 use Rattle.page_line.proofs.Lines.{line-end, line-first}
@@ -39,18 +40,13 @@ step-0 n e = go (eqb n 0) refl e
     go true q e = eqb-true n 0 q
     go false q e = bad-went n e
 
-pub answer-0 : (f : Bool) (n : ℕ) → answer true f n ≡ 0 → (f ≡ true) × (n ≡ 0)
-unfolding answer
-answer-0 true n e = (refl, e)
-answer-0 false n e = absurd (omega arith)
-
 -- its record has room in its list
 module _ (k : Kind) (r : Record) (ws : List ℕ) (e : takeNumber k r (listsOf (block ws)) ≡ 0) where
   has-room : count (area k (block ws)) < most k
   unfolding takeNumber
   has-room =
       room-0 k (block ws)
-      (room-of k (block ws) (key r) (addNumber k (listsOf (block ws)) (key r)) refl (answer-0 (okRecord k r) (addNumber k (listsOf (block ws)) (key r)) e .1))
+      (room-of k (block ws) (key r) (addNumber k (listsOf (block ws)) (key r)) refl (answer-0 true (fieldsNumber k r) (addNumber k (listsOf (block ws)) (key r)) e .2))
 
   is-taken : leaves (entry k r) ws ≡ taken k r ws
   unfolding leaves at0
@@ -60,14 +56,15 @@ module _ (k : Kind) (r : Record) (ws : List ℕ) (e : takeNumber k r (listsOf (b
 pub record After (x : Line) (ws ws′ : List ℕ) : Type 0 where
   pub ready : Ready ws′
   pub long : length ws′ ≡ length ws
-  pub book : bookOf ws′ ≡ record { lists = adds x (listsOf (block ws)); pile = bookOf ws .pile }
+  pub lists : listsOf (block ws′) ≡ adds x (listsOf (block ws))
+  pub settled : Settled ws → Settled ws′
 
 after-taken : (k : Kind) (r : Record) (ws : List ℕ) → Ready ws → length r ≡ width k → takeNumber k r (listsOf (block ws)) ≡ 0 → After (entry k r) ws (leaves (entry k r) ws)
-unfolding adds bookOf
+unfolding adds
 after-taken k r ws ready hw e =
     let room = has-room k r ws e in
     rw (is-taken k r ws e)
-    (record { ready = ready-taken k r ws ready hw room; long = length-taken k r ws ready hw room; book = book-taken k r ws ready hw room })
+    (record { ready = ready-taken k r ws ready hw room; long = length-taken k r ws ready hw room; lists = lists-taken k r ws ready hw room; settled = settled-taken k r ws ready hw room })
 
 pub after : (x : Line) (ws : List ℕ) → Ready ws → Wide x → takes x (listsOf (block ws)) ≡ Went → After x ws (leaves x ws)
 unfolding takes
@@ -75,8 +72,7 @@ after (entry k r) ws ready hw e = after-taken k r ws ready hw (step-0 (takeNumbe
 after malformed ws ready hw e = bad-went 0 e
 
 lists-after : (x : Line) (ws ws′ : List ℕ) → After x ws ws′ → listsOf (block ws′) ≡ adds x (listsOf (block ws))
-unfolding bookOf
-lists-after x ws ws′ a = ap (λ (b : Book). b .lists) (a .book)
+lists-after x ws ws′ a = a .lists
 
 -- ---- how many records there are
 unfoldable pub total : Lists → ℕ
@@ -116,8 +112,7 @@ pub lines-few : (text start ws : List ℕ) (at n : ℕ) → Read text start ws a
 lines-few text start ws at n r = omega (arith, r .few, total-few ws (r .ready))
 
 empty-lists : (ws : List ℕ) → listsOf (block (emptied ws)) ≡ noLists
-unfolding bookOf
-empty-lists ws = ap (λ (b : Book). b .lists) (book-emptied ws)
+empty-lists ws = lists-emptied ws
 
 pub read-first : (text given start : List ℕ) → DESK ≤ length given → start ≡ emptied given → Read text start start 0 0
 unfolding readText total
@@ -196,29 +191,25 @@ unfolding stopOf
 stop-at n k = refl
 
 -- ---- the words hold the lists that were read
-no-change : (ws : List ℕ) → bookOf ws .pile ≡ [] → bookOf ws ≡ record { lists = listsOf (block ws); pile = [] }
-unfolding bookOf
-no-change ws e = ap (λ (p : List Lists). record { lists = listsOf (block ws); pile = p }) e
-
-feed-decoded : (n : ℕ) (ws : List ℕ) (xs : List Line) → Ready ws → AllWide xs → bookOf ws .pile ≡ []
-    → bookOf (feedWords ws xs) ≡ record { lists = feed n (listsOf (block ws)) xs .lists; pile = [] }
+feed-decoded : (n : ℕ) (ws : List ℕ) (xs : List Line) → Ready ws → AllWide xs → Settled ws
+    → bookOf (feedWords ws xs) ≡ bookWith (feed n (listsOf (block ws)) xs .lists)
 unfolding feed feedWords onward onwardWords
-feed-decoded n ws [] ready w e = no-change ws e
+feed-decoded n ws [] ready w e = book-settled ws e
 feed-decoded n ws (x ∷ xs) ready w e = go (takes x (listsOf (block ws))) refl (λ a p. feed-decoded (n + 1) (leaves x ws) xs (a .ready) (w .1) p)
   where
     go : (s : Step) → takes x (listsOf (block ws)) ≡ s
-        → (After x ws (leaves x ws) → bookOf (leaves x ws) .pile ≡ []
-        → bookOf (feedWords (leaves x ws) xs) ≡ record { lists = feed (n + 1) (listsOf (block (leaves x ws))) xs .lists; pile = [] })
+        → (After x ws (leaves x ws) → Settled (leaves x ws)
+        → bookOf (feedWords (leaves x ws) xs) ≡ bookWith (feed (n + 1) (listsOf (block (leaves x ws))) xs .lists))
         → bookOf (onwardWords s (leaves x ws) (feedWords (leaves x ws) xs))
-        ≡ record { lists = onward s (n + 1) (feed (n + 1) (adds x (listsOf (block ws))) xs) .lists; pile = [] }
+        ≡ bookWith (onward s (n + 1) (feed (n + 1) (adds x (listsOf (block ws))) xs) .lists)
     go Went t ih =
         let a = after x ws ready (w .0) t in
-        ih a (ap (λ (b : Book). b .pile) (a .book) ∙ e)
-        ∙ ap (λ (l : Lists). record { lists = feed (n + 1) l xs .lists; pile = [] }) (lists-after x ws (leaves x ws) a)
+        ih a (a .settled e)
+        ∙ ap (λ (l : Lists). bookWith (feed (n + 1) l xs .lists)) (lists-after x ws (leaves x ws) a)
     go (Bad k) t ih = book-emptied (leaves x ws)
 
 pub decoded : Decoded
 unfolding textWords readText
 decoded text ws h =
-    feed-decoded 0 (emptied ws) (textLines text) (ready-emptied ws h) (wide-lines text) (ap (λ (b : Book). b .pile) (book-emptied ws))
-    ∙ ap (λ (l : Lists). record { lists = feed 0 l (textLines text) .lists; pile = [] }) (empty-lists ws)
+    feed-decoded 0 (emptied ws) (textLines text) (ready-emptied ws h) (wide-lines text) (settled-emptied ws)
+    ∙ ap (λ (l : Lists). bookWith (feed 0 l (textLines text) .lists)) (empty-lists ws)

@@ -5,7 +5,7 @@ use mathlib.Core.List.{List, [], _∷_, _++_}
 use mathlib.Core.Bool.{true}
 use lib.ListN.{length, take}
 use Rattle.desk.specs.Sizes.{DESK}
-use Rattle.desk.specs.Book.{Lists, noLists, okLists}
+use Rattle.desk.specs.Book.{Lists, noLists, bookWith, okLists}
 use Rattle.desk.specs.Desk.{bookOf}
 use Rattle.page_line.specs.Records.{Line}
 use Rattle.page_line.specs.Lines.{LINE, textLines}
@@ -47,9 +47,9 @@ Refused = (text : List ℕ) → readText text .number ≡ 16 → FirstBad (textL
 abbrev pub Numbers : Type 0
 Numbers = (text : List ℕ) → (readText text .number ≡ 0 → ⊥) → readText text .number ≡ 16
 
--- the desk holds the lists that were read, and no pile
+-- the desk holds the lists that were read, and nothing to undo
 abbrev pub Decoded : Type 0
-Decoded = (text ws : List ℕ) → DESK ≤ length ws → bookOf (textWords text ws) ≡ record { lists = readText text .lists; pile = [] }
+Decoded = (text ws : List ℕ) → DESK ≤ length ws → bookOf (textWords text ws) ≡ bookWith (readText text .lists)
 
 -- what is written of valid lists is read back
 abbrev pub RoundTrip : Type 0

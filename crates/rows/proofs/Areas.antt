@@ -5,12 +5,13 @@
 use mathlib.Core.Path.{_≡_, sym, ap, _∙_}
 use mathlib.Core.List.{List, [], _∷_, _++_, append-assoc}
 use Prim.Native.Nat.{ℕ, _+_, _-_, _*_, _≤_, _<_}
+use native.Mathlib.Nat.{add-mul}
 use native.Mathlib.Numerals.{add-one}
 use native.Mathlib.Omega.{arith}
-use lib.ListN.{length, getD, take, drop, set, length-take, length-drop, length-set}
+use lib.ListN.{length, getD, take, drop, set, length-take, length-drop, length-set, take-append-drop}
 use lib.Seq
-use Rattle.rows.specs.Rows.{pasted, records, putLast, takeOut, without}
-use Rattle.rows.proofs.Rows.{one-more, the-rest, take-drop, rows-snoc, rows-prefix, rows-without}
+use Rattle.rows.specs.Rows.{pasted, rows, records, putLast, takeOut, putIn, without, inserted}
+use Rattle.rows.proofs.Rows.{one-more, the-rest, take-drop, rows-snoc, rows-prefix, rows-without, rows-inserted}
 
 pub put-last : (row area l : List ℕ) (n : ℕ) → n ≡ getD area 0 0 → l ≡ pasted area (1 + n * length row) row (length row)
     → set l 0 (getD area 0 0 + 1) ≡ putLast (length row) row area
@@ -21,6 +22,12 @@ pub take-out : (w i n : ℕ) (area l : List ℕ) → n ≡ getD area 0 0
     → l ≡ pasted area (1 + i * w) (drop (1 + (i + 1) * w) area) ((n - (i + 1)) * w) → set l 0 (getD area 0 0 - 1) ≡ takeOut w i area
 unfolding takeOut
 take-out w i n area l en e = rw (e, en)
+
+pub put-in : (row area l m : List ℕ) (i n : ℕ) → n ≡ getD area 0 0
+    → m ≡ pasted area (1 + i * length row + length row) (drop (1 + i * length row) area) ((n - i) * length row)
+    → l ≡ pasted m (1 + i * length row) row (length row) → set l 0 (getD area 0 0 + 1) ≡ putIn (length row) i row area
+unfolding putIn
+put-in row area l m i n en em e = rw (e, em, en)
 
 back-one : (k : ℕ) → 0 < k → k - 1 + 1 ≡ k
 back-one k h = omega arith
@@ -38,6 +45,10 @@ module _ (d : List ℕ) (at : ℕ) (s : List ℕ) (n : ℕ) (hd : at ≤ length 
   pub through : take (at + n) (pasted d at s n) ≡ take at d ++ take n s
   unfolding pasted
   through = Seq.take-paste d at s n hd hs
+
+pub past : (d : List ℕ) (at : ℕ) (s : List ℕ) (n : ℕ) → at + n ≤ length d → n ≤ length s → drop (at + n) (pasted d at s n) ≡ drop (at + n) d
+unfolding pasted
+past d at s n hd hs = Seq.drop-paste d at s n (omega arith) hs
 
 -- an area with a row put last
 module _ (w : ℕ) (row area : List ℕ) (hw : length row ≡ w) (fits : 1 + (getD area 0 0 + 1) * w ≤ length area) where
@@ -104,6 +115,91 @@ module _ (w i : ℕ) (area : List ℕ) (hi : i < getD area 0 0) (fits : 1 + getD
       ∙ ap (λ (t : ℕ). take (t + m) (take (i * w) W ++ drop ((i + 1) * w) W)) lW) in
       rw (Seq.drop-set-lt 1 P 0 (k - 1) (omega arith))
       (rows-prefix w (k - 1) (drop 1 P) (take (i * w) W ++ drop ((i + 1) * w) W) e₁ ∙ rows-without w k i W hi (rw length-drop (omega arith)))
+
+-- an area with a row put in at i
+module _ (w i : ℕ) (row area : List ℕ) (hi : i ≤ getD area 0 0) (hw : length row ≡ w) (fits : 1 + (getD area 0 0 + 1) * w ≤ length area) where
+  abbrev k : ℕ
+  k = getD area 0 0
+
+  abbrev at : ℕ
+  at = 1 + i * w
+
+  abbrev m : ℕ
+  m = (k - i) * w
+
+  whole : m + i * w ≡ k * w
+  whole = let e : k - i + i ≡ k = omega arith in sym (add-mul (k - i) i w) ∙ ap (λ (t : ℕ). t * w) e
+
+  room : at + w + m ≤ length area
+  room = omega (arith, whole, one-more k w)
+
+  abbrev moved : List ℕ
+  moved = pasted area (at + w) (drop at area) m
+
+  long : m ≤ length (drop at area)
+  long = rw length-drop (omega (arith, room))
+
+  length-moved : length moved ≡ length area
+  unfolding pasted
+  length-moved = Seq.length-paste area (at + w) (drop at area) m room long
+
+  length-in : length (pasted moved at row w) ≡ length area
+  unfolding pasted
+  length-in = Seq.length-paste moved at row w (omega (arith, room, length-moved)) (omega arith) ∙ length-moved
+
+  pub length-putIn : length (putIn w i row area) ≡ length area
+  unfolding putIn
+  length-putIn = length-set (pasted moved at row w) 0 (k + 1) ∙ length-in
+
+  pub in-count : getD (putIn w i row area) 0 0 ≡ getD area 0 0 + 1
+  unfolding putIn
+  in-count = Seq.getD-set-same (pasted moved at row w) 0 (k + 1) 0 (rw length-in (omega (arith, room)))
+
+  abbrev W : List ℕ
+  W = drop 1 area
+
+  abbrev Y : List ℕ
+  Y = take m (drop at area) ++ drop (at + w + m) area
+
+  behind : drop at (pasted moved at row w) ≡ row ++ Y
+  behind =
+      from moved at row w (omega (arith, room, length-moved)) (omega arith)
+      ∙ ap (λ (t : List ℕ). take w row ++ t) (from area (at + w) (drop at area) m (omega (arith, room)) long)
+      ∙ ap (λ (t : List ℕ). t ++ Y) (Seq.take-all w row (omega arith))
+
+  first : take at (pasted moved at row w) ≡ take at area
+  first =
+      before moved at row w (omega (arith, room, length-moved)) (omega arith)
+      ∙ sym (Seq.take-take at (at + w) moved (omega arith))
+      ∙ ap (take at) (before area (at + w) (drop at area) m (omega (arith, room)) long)
+      ∙ Seq.take-take at (at + w) area (omega arith)
+
+  words : drop 1 (pasted moved at row w) ≡ take (i * w) W ++ (row ++ Y)
+  words =
+      ap (drop 1) (sym (take-append-drop at (pasted moved at row w)) ∙ ap (λ (t : List ℕ). t ++ drop at (pasted moved at row w)) first ∙ ap (λ (t : List ℕ). take at area ++ t) behind)
+      ∙ Seq.drop-append-le 1 (take at area) (row ++ Y) (rw length-take (omega (arith, room)))
+      ∙ ap (λ (t : List ℕ). t ++ (row ++ Y)) (sym (take-drop 1 (i * w) area))
+
+  same-words : take ((k + 1) * w) (take (i * w) W ++ (row ++ Y)) ≡ take ((k + 1) * w) (take (i * w) W ++ (row ++ drop (i * w) W))
+  same-words =
+      let lW : length (take (i * w) W) ≡ i * w = Seq.length-take-le (i * w) W (rw length-drop (omega (arith, room))) in
+      let e : (k + 1) * w ≡ length (take (i * w) W) + (length row + m) = omega (arith, whole, one-more k w, lW, hw) in
+      let lY : length (take m (drop at area)) ≡ m = Seq.length-take-le m (drop at area) long in
+      let t : take m Y ≡ take m (drop (i * w) W) =
+      Seq.take-at (take m (drop at area)) (drop (at + w + m) area) m lY ∙ ap (take m) (sym (Seq.drop-drop (i * w) 1 area)) in
+      rw e
+      (Seq.take-append-add (take (i * w) W) (row ++ Y) (length row + m)
+      ∙ ap (λ (s : List ℕ). take (i * w) W ++ s) (Seq.take-append-add row Y m ∙ ap (λ (s : List ℕ). row ++ s) t ∙ sym (Seq.take-append-add row (drop (i * w) W) m))
+      ∙ sym (Seq.take-append-add (take (i * w) W) (row ++ drop (i * w) W) (length row + m)))
+
+  pub in-records : records w (getD area 0 0 + 1) (putIn w i row area) ≡ inserted i row (records w (getD area 0 0) area)
+  unfolding putIn records
+  in-records =
+      rw (Seq.drop-set-lt 1 (pasted moved at row w) 0 (k + 1) (omega arith))
+      (ap (rows w (k + 1)) words
+      ∙ rows-prefix w (k + 1) (take (i * w) W ++ (row ++ Y)) (take (i * w) W ++ (row ++ drop (i * w) W)) same-words
+      ∙ ap (λ (n : ℕ). rows w n (take (i * w) W ++ (row ++ drop (i * w) W))) (add-one k)
+      ∙ rows-inserted w k i row W hi (rw length-drop (omega (arith, one-more k w))) hw)
 
 -- lengths
 pub length-put : (w : ℕ) (row area : List ℕ) → length row ≡ w → 1 + (getD area 0 0 + 1) * w ≤ length area → length (putLast w row area) ≡ length area

@@ -1,20 +1,22 @@
 -- Laws of rows in words, and the steps of the loops that search them.
 --     length-rows, rows-split, rows-prefix, rows-snoc, rows-without, rows-take    rows by their words
 --     length-records, record-split, ids-from                                      the rows of an area and their keys
---     find-here, find-on, find-end, is-in                                         the turns of the search
+--     find-here, find-on, find-end                                                the turns of the search for a place
+--     seek-on, seek-end                                                           the turns of the search without an exit
+--     gather-on, gather-end                                                       the turns of the copy of the keys
 --     pass, fail, done                                                            the turns of a scan
 use mathlib.Core.Path.{_≡_, refl, sym, ap, _∙_}
-use mathlib.Core.List.{List, [], _∷_, _++_, append-assoc, map}
-use mathlib.Core.Bool.{Bool, true, false, _&&_}
+use mathlib.Core.List.{List, [], _∷_, _++_, append-assoc, append-nil, map}
+use mathlib.Core.Bool.{Bool, true, false, cond, _&&_, _||_}
 use Prim.Native.Nat.{ℕ, zero, suc, _+_, _-_, _*_, _≤_, _<_, min}
 use native.Mathlib.Nat.{suc-mul, zero-mul, add-mul, add-comm, zero-add, mul-le-mul-right}
 use native.Mathlib.Numerals.{add-one}
 use native.Mathlib.Omega.{arith}
-use lib.ListN.{length, getD, take, drop, length-drop, length-map, drop-of-length-le}
-use lib.Seq.{drop-drop, getD-take, getD-drop, take-take, take-add, take-at, drop-at, length-take-le}
-use lib.Dec.{ltb}
+use lib.ListN.{length, getD, take, drop, set, length-drop, length-map, drop-of-length-le}
+use lib.Seq.{drop-drop, getD-take, getD-drop, take-take, take-add, take-at, drop-at, take-suc-set, drop-cons, length-take-le}
+use lib.Dec.{eqb, ltb}
 use borrow.Author.Tests.{eq-eqb, ne-eqb, lt-ltb, le-ltb, ltb-true, ltb-false}
-use Rattle.rows.specs.Rows.{rows, records, key, ids, keys, place, isIn, scan, without}
+use Rattle.rows.specs.Rows.{rows, records, key, ids, keys, place, isIn, scan, without, inserted}
 
 module _ {A B : Type 0} where
   pub drop-map : (f : A → B) (i : ℕ) (xs : List A) → drop i (map f xs) ≡ map f (drop i xs)
@@ -112,6 +114,23 @@ rows-without w (suc (suc n)) (suc i) ws h l =
     (ap (λ (k : ℕ). rows w k (take (i * w) (drop w ws) ++ drop ((i + 1) * w) (drop w ws))) (sym e′)
     ∙ rows-without w (suc n) i (drop w ws) (omega arith) (rw length-drop (omega (arith, suc-row (suc n) w)))))
 
+pub rows-inserted : (w n i : ℕ) (row ws : List ℕ) → i ≤ n → n * w ≤ length ws → length row ≡ w
+    → rows w (suc n) (take (i * w) ws ++ (row ++ drop (i * w) ws)) ≡ inserted i row (rows w n ws)
+unfolding rows inserted
+rows-inserted w n zero row ws h l hw = rw (zero-mul w, take-at row ws w hw, drop-at row ws w hw)
+rows-inserted w zero (suc i) row ws h l hw = absurd (omega arith)
+rows-inserted w (suc n) (suc i) row ws h l hw =
+    let w₀ : w ≤ length ws = omega (arith, suc-row n w) in
+    let lt : length (take w ws) ≡ w = length-take-le w ws w₀ in
+    let X : List ℕ = row ++ drop (suc i * w) ws in
+    let eX : X ≡ row ++ drop (i * w) (drop w ws) =
+    ap (λ (t : List ℕ). row ++ t) (ap (λ (k : ℕ). drop k ws) (suc-row i w) ∙ sym (drop-drop (i * w) w ws)) in
+    let s : take (suc i * w) ws ++ X ≡ take w ws ++ (take (i * w) (drop w ws) ++ X) =
+    ap (λ (t : List ℕ). t ++ X) (ap (λ (k : ℕ). take k ws) (suc-row i w) ∙ take-add w (i * w) ws) ∙ append-assoc (take w ws) (take (i * w) (drop w ws)) X in
+    rw (s, take-at (take w ws) (take (i * w) (drop w ws) ++ X) w lt, drop-at (take w ws) (take (i * w) (drop w ws) ++ X) w lt, eX)
+    (ap (λ (r : List (List ℕ)). take w ws ∷ r)
+    (rows-inserted w n i row (drop w ws) (omega arith) (rw length-drop (omega (arith, suc-row n w))) hw))
+
 pub rows-take : (w k n : ℕ) (ws : List ℕ) → take k (rows w n ws) ≡ rows w (min k n) ws
 unfolding rows
 rows-take w zero n ws =
@@ -190,23 +209,70 @@ module _ (w n : ℕ) (area : List ℕ) (k i t : ℕ) (so-far : i + place k (drop
       let z : place k (drop i (keys w n area)) ≡ 0 = nowhere k _ l in
       omega arith
 
-pub ltb-shift : (a p n : ℕ) → a ≤ n → ltb (a + p) n ≡ ltb p (n - a)
-ltb-shift a p n h = go (ltb p (n - a)) refl
+-- ---- a search without an exit: r says whether k stands before place i of L
+ltb-suc : (p n : ℕ) → ltb (suc p) (suc n) ≡ ltb p n
+ltb-suc p n = go (ltb p n) refl
   where
-    go : (b : Bool) → ltb p (n - a) ≡ b → ltb (a + p) n ≡ b
-    go true e = lt-ltb (a + p) n (omega (arith, ltb-true p (n - a) e))
-    go false e = le-ltb (a + p) n (omega (arith, ltb-false p (n - a) e))
+    go : (b : Bool) → ltb p n ≡ b → ltb (suc p) (suc n) ≡ b
+    go true e = lt-ltb (suc p) (suc n) (omega (arith, ltb-true p n e))
+    go false e = le-ltb (suc p) (suc n) (omega (arith, ltb-false p n e))
 
-pub is-in : (w n : ℕ) (area : List ℕ) (from k r : ℕ) → from ≤ n → r ≡ from + place k (drop from (keys w n area))
-    → ltb r n ≡ isIn k (drop from (keys w n area))
-unfolding isIn
-is-in w n area from k r h e =
-    let l : length (drop from (keys w n area)) ≡ n - from = length-drop from (keys w n area) ∙ ap (λ (m : ℕ). m - from) (length-keys w n area) in
-    rw (e, l) (ltb-shift from (place k (drop from (keys w n area))) n h)
+in-more : (k x : ℕ) (xs : List ℕ) → isIn k (x ∷ xs) ≡ eqb x k || isIn k xs
+unfolding isIn place
+in-more k x xs = go (eqb x k) refl
+  where
+    go : (b : Bool) → eqb x k ≡ b → ltb (cond (eqb x k) 0 (suc (place k xs))) (suc (length xs)) ≡ b || ltb (place k xs) (length xs)
+    go true e = rw e (lt-ltb 0 (suc (length xs)) (omega arith))
+    go false e = rw e (ltb-suc (place k xs) (length xs))
 
-pub is-held : (w n : ℕ) (area : List ℕ) (k : ℕ) (r : Bool) → n ≡ getD area 0 0 → r ≡ isIn k (drop 0 (keys w n area))
+or-across : (a b c : Bool) → a || (b || c) ≡ (b || a) || c
+or-across true true c = refl
+or-across true false c = refl
+or-across false true c = refl
+or-across false false c = refl
+
+or-none : (a : Bool) → a || false ≡ a
+or-none true = refl
+or-none false = refl
+
+pub words-split : (L : List ℕ) (i : ℕ) → i < length L → drop i L ≡ getD L i 0 ∷ drop (i + 1) L
+words-split L i h = rw add-one (drop-cons L i 0 h)
+
+-- row i of an area of n rows lies in it, where n is the count c
+pub in-area : (w i n c l : ℕ) → 0 < w → i < n → n ≡ c → 1 + c * w ≤ l → 1 + i * w < l
+in-area w i n c l h₀ h e m = omega (arith, row-in w i n h, ap (λ (t : ℕ). t * w) e)
+
+module _ (k : ℕ) (L : List ℕ) (i : ℕ) (r : Bool) (so-far : isIn k L ≡ r || isIn k (drop i L)) where
+  pub seek-on : (x : ℕ) → drop i L ≡ x ∷ drop (i + 1) L → isIn k L ≡ (eqb x k || r) || isIn k (drop (i + 1) L)
+  seek-on x split =
+      so-far ∙ ap (λ (t : List ℕ). r || isIn k t) split ∙ ap (λ (b : Bool). r || b) (in-more k x (drop (i + 1) L))
+      ∙ or-across r (eqb x k) (isIn k (drop (i + 1) L))
+
+  pub seek-end : length L ≤ i → r ≡ isIn k L
+  unfolding isIn place
+  seek-end h = sym (so-far ∙ ap (λ (t : List ℕ). r || isIn k t) (drop-of-length-le L h) ∙ or-none r)
+
+pub is-held : (w n : ℕ) (area : List ℕ) (k : ℕ) (r : Bool) → n ≡ getD area 0 0 → r ≡ isIn k (keys w n area)
     → r ≡ isIn k (keys w (getD area 0 0) area)
 is-held w n area k r e f = f ∙ ap (λ (m : ℕ). isIn k (keys w m area)) e
+
+-- ---- the keys of n rows written side by side: the first i stand already
+module _ (w n : ℕ) (area words : List ℕ) (i : ℕ) (so-far : take i words ++ drop i (keys w n area) ≡ keys w n area) where
+  pub gather-on : 0 < w → i < n → i < length words
+      → take (i + 1) (set words i (getD area (1 + i * w) 0)) ++ drop (i + 1) (keys w n area) ≡ keys w n area
+  gather-on h₀ h l =
+      let x : ℕ = getD area (1 + i * w) 0 in
+      let e : i + 1 ≡ suc i = omega arith in
+      ap (λ (t : List ℕ). t ++ drop (i + 1) (keys w n area)) (ap (λ (j : ℕ). take j (set words i x)) e ∙ take-suc-set words i x l)
+      ∙ append-assoc (take i words) (x ∷ []) (drop (i + 1) (keys w n area))
+      ∙ ap (λ (t : List ℕ). take i words ++ t) (sym (keys-split w n area i h h₀))
+      ∙ so-far
+
+  pub gather-end : i ≡ n → take n words ≡ keys w n area
+  gather-end e =
+      let l : length (keys w n area) ≤ i = rw (length-keys w n area) (omega arith) in
+      ap (λ (j : ℕ). take j words) (sym e) ∙ sym (append-nil (take i words))
+      ∙ ap (λ (t : List ℕ). take i words ++ t) (sym (drop-of-length-le (keys w n area) l)) ∙ so-far
 
 -- ---- a scan of a list L from its front: what it says of the whole it says of what is left
 module _ {A : Type 0} (t : A → List A → Bool) (L : List A) (x : A) (i : ℕ) (split : drop i L ≡ x ∷ drop (i + 1) L)
@@ -224,3 +290,10 @@ module _ {A : Type 0} (t : A → List A → Bool) (L : List A) (x : A) (i : ℕ)
 pub done : {A : Type 0} (t : A → List A → Bool) (L : List A) (i : ℕ) → length L ≤ i → scan t L ≡ scan t (drop i L) → true ≡ scan t L
 unfolding scan
 done t L i h e = sym (e ∙ ap (scan t) (drop-of-length-le L h))
+
+-- the room that a row put in at i needs: n is the count, c the count and l the length of the area
+pub room-in : (c n i w l : ℕ) → n ≡ c → i ≤ c → 1 + (c + 1) * w ≤ l → (1 + i * w + w + (n - i) * w ≤ l) × ((n - i) * w ≤ l)
+room-in c n i w l en hi h =
+    let e : n - i + i ≡ n = omega arith in
+    let s : (n - i) * w + i * w ≡ c * w = sym (add-mul (n - i) i w) ∙ ap (λ (t : ℕ). t * w) (e ∙ en) in
+    omega (arith, one-more c w)

@@ -50,6 +50,11 @@ unfoldable pub takeOut : ℕ → ℕ → List ℕ → List ℕ
 takeOut w i area =
     set (pasted area (1 + i * w) (drop (1 + (i + 1) * w) area) ((count area - (i + 1)) * w)) 0 (count area - 1)
 
+-- the area with a row put in at i: the rows from there on move up
+unfoldable pub putIn : ℕ → ℕ → List ℕ → List ℕ → List ℕ
+putIn w i row area =
+    set (pasted (pasted area (1 + i * w + w) (drop (1 + i * w) area) ((count area - i) * w)) (1 + i * w) row w) 0 (count area + 1)
+
 -- ---- lists
 module _ {A : Type 0} where
   -- the list without its element at i
@@ -57,6 +62,12 @@ module _ {A : Type 0} where
   without i [] = []
   without zero (x ∷ xs) = xs
   without (suc i) (x ∷ xs) = x ∷ without i xs
+
+  -- the list with an element put in at i
+  unfoldable pub inserted : ℕ → A → List A → List A
+  inserted zero x xs = x ∷ xs
+  inserted (suc i) x [] = x ∷ []
+  inserted (suc i) x (y ∷ ys) = y ∷ inserted i x ys
 
   -- each element passes a test that also sees the elements behind it
   unfoldable pub scan : (A → List A → Bool) → List A → Bool

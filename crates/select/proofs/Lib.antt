@@ -2,4 +2,3 @@ pub mod Flat
 pub mod Listed
 pub mod Ok
 pub mod Asked
-pub mod Lent

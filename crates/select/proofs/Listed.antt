@@ -15,8 +15,9 @@ use lib.Seq.{getD-append-add}
 use Rattle.fixed.proofs.Bools.{and-left, and-right}
 use Rattle.rows.specs.Rows.{key, ids, scan, place, isIn}
 use Rattle.rows.proofs.Rows.{suc-row}
-use Rattle.desk.specs.Book.{Record, width, okFields, okRecord, own, belongs}
+use Rattle.desk.specs.Book.{Record, width, okRecord, own, belongs}
 use Rattle.desk.specs.declared.Kind.{Kind}
+use Rattle.desk.proofs.Fields.{record-long}
 use Rattle.desk.proofs.Blocks.{wide-enough}
 use Rattle.desk.proofs.Keeps.{isIn-cons}
 use Rattle.anchors.specs.Records.{ROW}
@@ -43,10 +44,6 @@ unfolding belongs
 fine-belongs k os rs e = fine k (belongs k os) (λ r qs t. and-left (okRecord k r) (isIn (key r) (ids os)) t) rs e
 
 module _ (k : Kind) where
-  wide : (r : Record) → okRecord k r ≡ true → length r ≡ width k
-  unfolding okRecord
-  wide r e = eqb-true (length r) (width k) (and-left (eqb (length r) (width k)) (okFields k r) e)
-
   pub fine-at : {rs : List Record} → Fine k rs → (i : ℕ) → i < length rs → okRecord k (getD rs i []) ≡ true
   fine-at none i h = absurd (omega arith)
   fine-at (more e f) zero h = e
@@ -55,16 +52,16 @@ module _ (k : Kind) where
   pub length-flat : {rs : List Record} → Fine k rs → length (flat rs) ≡ length rs * width k
   unfolding flat
   length-flat none = sym (zero-mul (width k))
-  length-flat (more {r} {rs} e f) = length-append r (flat rs) ∙ rw (wide r e, length-flat f) (sym (suc-row (length rs) (width k)))
+  length-flat (more {r} {rs} e f) = length-append r (flat rs) ∙ rw (record-long k r e, length-flat f) (sym (suc-row (length rs) (width k)))
 
   pub word-at : {rs : List Record} → Fine k rs → (i j : ℕ) → i < length rs → j < width k → getD (flat rs) (i * width k + j) 0 ≡ getD (getD rs i []) j 0
   unfolding flat
   word-at none i j h l = absurd (omega arith)
   word-at (more {r} {rs} e f) zero j h l =
       let q : 0 * width k + j ≡ j = rw zero-mul (omega arith) in
-      rw q (List·getD-append r (flat rs) 0 j (omega (arith, wide r e)))
+      rw q (List·getD-append r (flat rs) 0 j (omega (arith, record-long k r e)))
   word-at (more {r} {rs} e f) (suc i) j h l =
-      let q : suc i * width k + j ≡ length r + (i * width k + j) = omega (arith, suc-row i (width k), wide r e) in
+      let q : suc i * width k + j ≡ length r + (i * width k + j) = omega (arith, suc-row i (width k), record-long k r e) in
       rw q (getD-append-add r (flat rs) (i * width k + j) 0 ∙ word-at f i j (omega arith) l)
 
   pub key-at : {rs : List Record} → Fine k rs → (i : ℕ) → i < length rs → getD (flat rs) (i * width k) 0 ≡ key (getD rs i [])
@@ -80,7 +77,7 @@ module _ (k : Kind) where
       go : (t : Bool) → ltb i (length r) ≡ t → getD (flat rs) (i - length r) 0 < m → getD (r ++ flat rs) i 0 < m
       go true q on =
           let l : i < length r = ltb-true i (length r) q in
-          rw (List·getD-append r (flat rs) 0 i l) (low r e i (omega (arith, wide r e)))
+          rw (List·getD-append r (flat rs) 0 i l) (low r e i (omega (arith, record-long k r e)))
       go false q on =
           let l : length r ≤ i = ltb-false i (length r) q in
           let s : i ≡ length r + (i - length r) = omega arith in

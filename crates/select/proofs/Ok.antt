@@ -19,6 +19,7 @@ use Rattle.rows.proofs.Rows.{row-in}
 use Rattle.desk.specs.Sizes.{IDS}
 use Rattle.desk.specs.Book.{Record, Lists, width, okId, okPlace, okFields, okRecord, okLists}
 use Rattle.desk.specs.declared.Kind.{Kind}
+use Rattle.desk.proofs.Fields.{record-ranged}
 use Rattle.desk.proofs.Keeps.{boxes-ok, nets-ok, ports-ok, ends-ok, owners-few, owners-scan, members-few, members-scan}
 use Rattle.sightline.specs.Boxes.{Fields}
 use Rattle.anchors.specs.Records.{BOX, ROW, NET, RowsHeld}
@@ -40,10 +41,6 @@ unfolding okPlace
 placed x y e =
     (within x (and-left (leb LEAST x && leb x GREATEST) _ e), within y (and-right (leb LEAST x && leb x GREATEST) _ e))
 
-fields : (k : Kind) (r : Record) → okRecord k r ≡ true → okFields k r ≡ true
-unfolding okRecord
-fields k r e = and-right (eqb (length r) (width k)) _ e
-
 module _ (r : Record) (e : okRecord Kind.Box r ≡ true) where
   abbrev low : Bool
   low = okPlace (getD r 1 0) (getD r 2 0)
@@ -52,10 +49,10 @@ module _ (r : Record) (e : okRecord Kind.Box r ≡ true) where
   high = okPlace (getD r 3 0) (getD r 4 0)
 
   places : low && high ≡ true
-  places = and-right (okId (getD r 0 0)) _ (and-left (okId (getD r 0 0) && (low && high)) _ (fields Kind.Box r e))
+  places = and-right (okId (getD r 0 0)) _ (and-left (okId (getD r 0 0) && (low && high)) _ (record-ranged Kind.Box r e))
 
   orders : leb (getD r 1 0) (getD r 3 0) && leb (getD r 2 0) (getD r 4 0) ≡ true
-  orders = and-right (okId (getD r 0 0) && (low && high)) _ (fields Kind.Box r e)
+  orders = and-right (okId (getD r 0 0) && (low && high)) _ (record-ranged Kind.Box r e)
 
   box-low : Coordinate (getD r 1 0) × Coordinate (getD r 2 0)
   box-low = placed (getD r 1 0) (getD r 2 0) (and-left low high places)
@@ -172,25 +169,25 @@ module _ (l : Lists) (ok : okLists l ≡ true) where
       (box-less (getD (l .boxes) i []) (fine-at Kind.Box boxes i h))
 
   pub port-x : Fields (flat (l .ports)) ROW 1 (length (l .ports))
-  port-x = coordinates Kind.Port (l .ports) ports 1 (omega arith) (λ r e. point-at r 15 (fields Kind.Port r e) .0)
+  port-x = coordinates Kind.Port (l .ports) ports 1 (omega arith) (λ r e. point-at r 15 (record-ranged Kind.Port r e) .0)
 
   pub port-y : Fields (flat (l .ports)) ROW 2 (length (l .ports))
-  port-y = coordinates Kind.Port (l .ports) ports 2 (omega arith) (λ r e. point-at r 15 (fields Kind.Port r e) .1)
+  port-y = coordinates Kind.Port (l .ports) ports 2 (omega arith) (λ r e. point-at r 15 (record-ranged Kind.Port r e) .1)
 
   pub port-dirs : (i : ℕ) → i < length (l .ports) → getD (flat (l .ports)) (i * ROW + 3) 0 ≤ 15
-  port-dirs i h = rw (word-at Kind.Port ports i 3 h (omega arith)) (point-last (getD (l .ports) i []) 15 (fields Kind.Port (getD (l .ports) i []) (fine-at Kind.Port ports i h)))
+  port-dirs i h = rw (word-at Kind.Port ports i 3 h (omega arith)) (point-last (getD (l .ports) i []) 15 (record-ranged Kind.Port (getD (l .ports) i []) (fine-at Kind.Port ports i h)))
 
   pub end-x : Fields (flat (l .ends)) ROW 1 (length (l .ends))
-  end-x = coordinates Kind.End (l .ends) ends 1 (omega arith) (λ r e. point-at r 1 (fields Kind.End r e) .0)
+  end-x = coordinates Kind.End (l .ends) ends 1 (omega arith) (λ r e. point-at r 1 (record-ranged Kind.End r e) .0)
 
   pub end-y : Fields (flat (l .ends)) ROW 2 (length (l .ends))
-  end-y = coordinates Kind.End (l .ends) ends 2 (omega arith) (λ r e. point-at r 1 (fields Kind.End r e) .1)
+  end-y = coordinates Kind.End (l .ends) ends 2 (omega arith) (λ r e. point-at r 1 (record-ranged Kind.End r e) .1)
 
   pub port-words : (m : ℕ) → GREATEST < m → (k : ℕ) → getD (flat (l .ports)) k 0 < m
-  port-words m h k = words-low Kind.Port m (omega arith) (λ r e j g. point-low r 15 (fields Kind.Port r e) m h (omega arith) j g) ports k
+  port-words m h k = words-low Kind.Port m (omega arith) (λ r e j g. point-low r 15 (record-ranged Kind.Port r e) m h (omega arith) j g) ports k
 
   pub end-words : (m : ℕ) → GREATEST < m → (k : ℕ) → getD (flat (l .ends)) k 0 < m
-  end-words m h k = words-low Kind.End m (omega arith) (λ r e j g. point-low r 1 (fields Kind.End r e) m h (omega arith) j g) ends k
+  end-words m h k = words-low Kind.End m (omega arith) (λ r e j g. point-low r 1 (record-ranged Kind.End r e) m h (omega arith) j g) ends k
 
   pub end-marks : (i : ℕ) → i < length (l .ends) → getD (flat (l .ends)) (i * ROW + 3) 0 ≤ 1
-  end-marks i h = rw (word-at Kind.End ends i 3 h (omega arith)) (point-last (getD (l .ends) i []) 1 (fields Kind.End (getD (l .ends) i []) (fine-at Kind.End ends i h)))
+  end-marks i h = rw (word-at Kind.End ends i 3 h (omega arith)) (point-last (getD (l .ends) i []) 1 (record-ranged Kind.End (getD (l .ends) i []) (fine-at Kind.End ends i h)))

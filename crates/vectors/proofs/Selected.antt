@@ -1,30 +1,21 @@
 -- A desk that was found valid gives what the graph of a page asks.
-use mathlib.Core.Path.{_≡_, refl, sym, _∙_}
-use mathlib.Core.Bool.{Bool, true, false, cond, _&&_}
+use mathlib.Core.Path.{_≡_, refl}
+use mathlib.Core.Bool.{true}
 use mathlib.Core.List.{List}
 use Prim.Native.Nat.{ℕ}
-use native.Mathlib.Omega.{arith}
-use lib.Dec.{leb}
 use lib.ListN.{length}
-use Rattle.desk.specs.Sizes.{DESK}
 use Rattle.desk.specs.Book.{list, valid, answer}
 use Rattle.desk.specs.Desk.{bookOf, sized}
 use Rattle.desk.proofs.Valid.{head-ok}
+use Rattle.desk.proofs.Whole.{sound-at}
 use Rattle.desk.specs.declared.Kind.{Kind}
 use Rattle.anchors.specs.Records.{records}
 use Rattle.page_graph.specs.Lent.{Asked}
 use Rattle.select.specs.Page.{flat}
 use Rattle.select.proofs.Asked.{asked}
 
-zero-valid : (lent v : Bool) → cond lent (answer v true 0) 1 ≡ 0 → v ≡ true
-unfolding answer
-zero-valid lent true e = refl
-zero-valid true false e = absurd (omega (arith, e))
-zero-valid false false e = absurd (omega (arith, e))
-
-pub valid-at-0 : (ws : List ℕ) → sized ws (answer (valid (bookOf ws)) true 0) ≡ 0 → valid (bookOf ws) ≡ true
-unfolding sized
-valid-at-0 ws e = zero-valid (leb DESK (length ws)) (valid (bookOf ws)) e
+pub valid-at-0 : (ws : List ℕ) → sized ws (answer (valid (bookOf ws)) 0 0) ≡ 0 → valid (bookOf ws) ≡ true
+valid-at-0 ws e = sound-at ws _ refl e .book
 
 pub asked-of : (ws : List ℕ) → valid (bookOf ws) ≡ true → (bs ps ns es : List ℕ) (nb np nn ne : ℕ)
     → bs ≡ flat (list Kind.Box (bookOf ws .lists)) → nb ≡ length (list Kind.Box (bookOf ws .lists))

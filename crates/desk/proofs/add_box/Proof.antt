@@ -30,7 +30,14 @@ same-length : tie.Need-same-length
 same-length c = search needs
 
 returns : tie.Need-returns
-returns c = Whole.as-called _ _ (c .before .before .before .before .before .before .before .before .before .before .args .desk .now) _ _ (Whole.box-call _ _ _ _ _ _ _ _ _ (c .before .before .before .before .before .before .before .before .up .ensures ∙ ap up (toZ-ofZ w32 (c .before .before .before .before .before .before .before .before .before .before .args .x0) (c .before .before .before .before .before .before .before .before .before .before .fits .x0))) (c .before .before .before .before .before .before .before .up2 .ensures ∙ ap up (toZ-ofZ w32 (c .before .before .before .before .before .before .before .before .before .before .args .y0) (c .before .before .before .before .before .before .before .before .before .before .fits .y0))) (c .before .before .before .before .before .before .up3 .ensures ∙ ap up (toZ-ofZ w32 (c .before .before .before .before .before .before .before .before .before .before .args .x1) (c .before .before .before .before .before .before .before .before .before .before .fits .x1))) (c .before .before .before .before .before .up4 .ensures ∙ ap up (toZ-ofZ w32 (c .before .before .before .before .before .before .before .before .before .before .args .y1) (c .before .before .before .before .before .before .before .before .before .before .fits .y1)))) (c .before .before .add .ensures)
+returns c =
+    let at-up3 = c .before .before .before .before .before .before in
+    let at-up2 = at-up3 .before in
+    let at-up = at-up2 .before in
+    let entry = at-up .before .before in
+    Whole.as-called _ _ _ _ _ (Whole.box-call _ _ _ _ _ _ _ _ _ (at-up .up .ensures ∙ ap up (toZ-ofZ w32 _ (entry .fits .x0)))
+    (at-up2 .up2 .ensures ∙ ap up (toZ-ofZ w32 _ (entry .fits .y0))) (at-up3 .up3 .ensures ∙ ap up (toZ-ofZ w32 _ (entry .fits .x1)))
+    (c .before .before .before .before .before .up4 .ensures ∙ ap up (toZ-ofZ w32 _ (entry .fits .y1)))) (c .before .before .add .ensures)
 
 pub add-box-spec : {M : Type 1} → statement M
 add-box-spec =

@@ -25,7 +25,11 @@ same-length : tie.Need-same-length
 same-length c = search needs
 
 returns : tie.Need-returns
-returns c = Whole.as-called _ _ (c .before .before .before .before .before .before .before .before .args .desk .now) _ _ (Whole.point-call Kind.End _ _ _ _ _ _ (c .before .before .before .before .before .before .up .ensures ∙ ap up (toZ-ofZ w32 (c .before .before .before .before .before .before .before .before .args .x) (c .before .before .before .before .before .before .before .before .fits .x))) (c .before .before .before .before .before .up2 .ensures ∙ ap up (toZ-ofZ w32 (c .before .before .before .before .before .before .before .before .args .y) (c .before .before .before .before .before .before .before .before .fits .y)))) (c .before .before .add .ensures)
+returns c =
+    let at-up = c .before .before .before .before .before .before in
+    let entry = at-up .before .before in
+    Whole.as-called _ _ _ _ _ (Whole.point-call Kind.End _ _ _ _ _ _ (at-up .up .ensures ∙ ap up (toZ-ofZ w32 _ (entry .fits .x)))
+    (c .before .before .before .before .before .up2 .ensures ∙ ap up (toZ-ofZ w32 _ (entry .fits .y)))) (c .before .before .add .ensures)
 
 pub add-end-spec : {M : Type 1} → statement M
 add-end-spec =

@@ -1,55 +1,75 @@
--- `desk::all_belong` meets its contract. What the scan says of the whole list it says of what is left.
-use mathlib.Core.Path.{_≡_, refl}
-use mathlib.Core.List.{List}
-use Prim.Native.Nat.{ℕ, _≤_, _-_}
+-- `desk::all_belong` meets its contract. The owners' ids are gathered, and then the rows tested.
+use mathlib.Core.Path.{sym, _∙_}
 use native.Mathlib.Omega.{arith}
-use lib.ListN.{drop}
 use borrow.Author.Needs.{needs}
-use Rattle.rows.specs.Rows.{part, records, ids, scan}
-use Rattle.desk.specs.Book.{width, belongs}
-use Rattle.desk.specs.Stamps.{Stamped}
+use Rattle.rows.proofs.Rows
+use Rattle.desk.proofs.Blocks
 use Rattle.desk.proofs.Valid
 use Rattle.desk.proofs.all_belong.Statement.{statement}
 use Rattle.desk.proofs.all_belong.Tie as tie
 
-abbrev Inv-loop : tie.InvT-loop
-Inv-loop part kind n table stamp i₀ i =
-    (i ≤ n) × ((os : List (List ℕ)) → Stamped stamp (ids os) table → scan (belongs kind os) (records (width kind) n part) ≡ scan (belongs kind os) (drop i (records (width kind) n part)))
+-- the function's places, each seen from the next one: its entry from the count, the count from the width, the width from the copy of the ids
+abbrev entry : tie.After-wide → tie.Start
+entry c = c .before .before .before .before
 
-abbrev μ-loop : tie.MeasureT-loop
-μ-loop part kind n table stamp i₀ i = n - i
+abbrev counted : tie.After-width → tie.After-wide
+counted c = c .before
 
-loop-holds : tie.Need-loop-holds Inv-loop μ-loop
-loop-holds c = (search needs, λ os st. refl)
+abbrev sized : tie.After-gather → tie.After-width
+sized c = c .before .before
 
-member-fits-requires : tie.Need-member-fits-requires Inv-loop μ-loop
-member-fits-requires c κs = search needs
+shared-slice-read-wide : tie.Need-shared-slice-read-wide
+shared-slice-read-wide c = search needs
 
-returns : tie.Need-returns Inv-loop μ-loop
-returns c os st = Valid.rows-fail _ _ _ _ (c .before .before .before .loop .i) (c .before .before .before .loop .inv .1 os st) _ (omega arith) (c .before .member-fits .ensures os _ st) (c .if1 .taken)
+wide-requires : tie.Need-wide-requires
+wide-requires c κs = search needs
 
-add-i : tie.Need-add-i Inv-loop μ-loop
-add-i c = search needs
+width-requires : tie.Need-width-requires
+width-requires c κs = search needs
 
-loop-less : tie.Need-loop-less Inv-loop μ-loop
-loop-less c = search needs
+slice-aggregate-gather : tie.Need-slice-aggregate-gather
+slice-aggregate-gather c = search needs
 
-loop-again : tie.Need-loop-again Inv-loop μ-loop
-loop-again c = (omega arith, λ os st. Valid.rows-pass _ _ _ _ (c .before .before .before .loop .i) (c .before .before .before .loop .inv .1 os st) _ (omega arith) (c .before .member-fits .ensures os _ st) (c .if1 .left))
+gather-requires : tie.Need-gather-requires
+gather-requires c κs =
+    let n = counted (c .before) in
+    let s = entry n in
+    Valid.can-gather (s .args .owner) (s .args .owners .now) _ _ _ (c .before .width .ensures) (n .wide .ensures) (s .pre .1) (s .pre .2)
 
-returns-2 : tie.Need-returns-2 Inv-loop μ-loop
-returns-2 c os st = Valid.rows-done _ _ _ _ (c .before .loop .i) (c .before .loop .inv .1 os st) (omega arith)
+array-share-prefix-ids : tie.Need-array-share-prefix-ids
+array-share-prefix-ids c =
+    let n = counted (sized (c .before)) in
+    let s = entry n in
+    omega (arith, c .before .gather .kept .1 .1 .1 .0, Blocks.few-most (s .args .owner), n .wide .ensures, s .pre .1)
+
+slice-aggregate-each-listed : tie.Need-slice-aggregate-each-listed
+slice-aggregate-each-listed c =
+    let at-gather = c .before .before in
+    let at-width = sized at-gather in
+    let n = counted at-width in
+    Valid.gathered-long (entry n .args .owner) _ _ _ _ (at-width .width .ensures) (n .wide .ensures) _ (at-gather .gather .ensures)
+
+each-listed-requires : tie.Need-each-listed-requires
+each-listed-requires c κs = search needs
+
+returns : tie.Need-returns
+returns c =
+    let at-gather = c .before .before .before in
+    let at-width = sized at-gather in
+    let n = counted at-width in
+    let is = Valid.gathered (entry n .args .owner) _ _ _ _ (at-width .width .ensures) (n .wide .ensures) _ (at-gather .gather .ensures) in
+    Valid.listed-belong _ _ _ _ _ (is ∙ sym (Rows.ids-are _ _ _)) (c .each-listed .ensures)
 
 pub all-belong-spec : {M : Type 1} → statement M
 all-belong-spec =
     tie.close
     (tie.spec
-    Inv-loop
-    μ-loop
-    loop-holds
-    member-fits-requires
-    returns
-    add-i
-    loop-less
-    loop-again
-    returns-2)
+    shared-slice-read-wide
+    wide-requires
+    width-requires
+    slice-aggregate-gather
+    gather-requires
+    array-share-prefix-ids
+    slice-aggregate-each-listed
+    each-listed-requires
+    returns)

@@ -1,67 +1,59 @@
--- `desk::all_own` meets its contract. The rows from i on fit, and their ids have the stamp.
-use mathlib.Core.Path.{_≡_, sym}
-use mathlib.Core.Bool.{true, true≢false}
-use Prim.Native.Nat.{_≤_, _+_, _-_}
+-- `desk::all_own` meets its contract. The ids are gathered, and then the rows tested.
+use mathlib.Core.Path.{refl}
 use native.Mathlib.Omega.{arith}
-use lib.ListN.{drop}
 use borrow.Author.Needs.{needs}
-use borrow.Author.Tests.{not-false}
-use Rattle.rows.specs.Rows.{part, records, keys, scan}
-use Rattle.desk.specs.Book.{width, own}
-use Rattle.desk.specs.Stamps.{Stamped}
-use Rattle.desk.proofs.Stamps
+use Rattle.desk.proofs.Blocks
 use Rattle.desk.proofs.Valid
 use Rattle.desk.proofs.all_own.Statement.{statement}
 use Rattle.desk.proofs.all_own.Tie as tie
 
-abbrev Inv-loop : tie.InvT-loop
-Inv-loop part kind n table₀ stamp i₀ table i =
-    (i ≤ n) × (scan (own kind) (drop i (records (width kind) n part)) ≡ true) × Stamped stamp (drop i (keys (width kind) n part)) table
+-- the function's places: its entry seen from the width, the width from the copy of the ids
+abbrev entry : tie.After-width → tie.Start
+entry c = c .before .before
 
-abbrev μ-loop : tie.MeasureT-loop
-μ-loop part kind n table₀ stamp i₀ table i = i
+abbrev sized : tie.After-gather → tie.After-width
+sized c = c .before .before
 
-loop-holds : tie.Need-loop-holds Inv-loop μ-loop
-loop-holds c =
-    let a = c .before .before .args in
-    (search needs, Valid.rows-none (own (a .kind)) (width (a .kind)) (a .n) (a .part .now), Valid.rows-unstamped (width (a .kind)) (a .n) (a .part .now) (a .stamp) (a .table .now) (c .before .before .pre .1))
+width-requires : tie.Need-width-requires
+width-requires c κs = search needs
 
-sub-i : tie.Need-sub-i Inv-loop μ-loop
-sub-i c = search needs
+slice-aggregate-gather : tie.Need-slice-aggregate-gather
+slice-aggregate-gather c = search needs
 
-own-fits-requires : tie.Need-own-fits-requires Inv-loop μ-loop
-own-fits-requires c κs = ((omega arith, c .before .before .before .before .before .pre .0), Stamps.from _ (c .before .before .loop .i) (c .before .before .loop .i - 1 + 1) _ _ (omega arith) (c .before .before .loop .inv .2))
+gather-requires : tie.Need-gather-requires
+gather-requires c κs =
+    let s = entry (c .before) in
+    Valid.can-gather (s .args .kind) (s .args .part .now) _ _ _ (c .before .width .ensures) refl (s .pre .0) (s .pre .1)
 
-same-length : tie.Need-same-length Inv-loop μ-loop
-same-length c = search needs
+array-share-prefix-ids : tie.Need-array-share-prefix-ids
+array-share-prefix-ids c =
+    let s = entry (sized (c .before)) in
+    omega (arith, c .before .gather .kept .1 .1 .1 .0, Blocks.few-most (s .args .kind), s .pre .0)
 
-returns : tie.Need-returns Inv-loop μ-loop
-returns c = (Valid.back-fail _ _ _ _ (c .before .before .before .before .before .before .loop .i - 1) (c .before .before .before .before .before .before .loop .i) (omega arith) (omega arith) (c .before .before .before .before .before .before .loop .inv .1) _ (c .before .before .before .own-fits .ensures .0) (c .if1 .taken), λ z. absurd (true≢false (sym z)))
+slice-aggregate-each-owns : tie.Need-slice-aggregate-each-owns
+slice-aggregate-each-owns c =
+    let at-gather = c .before .before in
+    let at-width = sized at-gather in
+    Valid.gathered-long (entry at-width .args .kind) _ _ _ _ (at-width .width .ensures) refl _ (at-gather .gather .ensures)
 
-loop-less : tie.Need-loop-less Inv-loop μ-loop
-loop-less c = search needs
+each-owns-requires : tie.Need-each-owns-requires
+each-owns-requires c κs =
+    let at-gather = c .before .before in
+    let at-width = sized at-gather in
+    let s = entry at-width in
+    (s .pre .1, Valid.gathered (s .args .kind) _ _ _ _ (at-width .width .ensures) refl _ (at-gather .gather .ensures))
 
-loop-again : tie.Need-loop-again Inv-loop μ-loop
-loop-again c = (omega arith, Valid.back-pass _ _ _ _ (c .before .before .before .before .before .before .loop .i - 1) (c .before .before .before .before .before .before .loop .i) (omega arith) (omega arith) (c .before .before .before .before .before .before .loop .inv .1) _ (c .before .before .before .own-fits .ensures .0) (c .if1 .left), c .before .before .before .own-fits .ensures .1 (not-false _ (c .if1 .left)))
-
-same-length-2 : tie.Need-same-length-2 Inv-loop μ-loop
-same-length-2 c = search needs
-
-returns-2 : tie.Need-returns-2 Inv-loop μ-loop
-returns-2 c = (Valid.back-done _ _ _ _ (c .before .loop .i) (omega arith) (c .before .loop .inv .1), λ z. Stamps.from _ (c .before .loop .i) 0 _ _ (omega arith) (c .before .loop .inv .2))
+returns : tie.Need-returns
+returns c = search needs
 
 pub all-own-spec : {M : Type 1} → statement M
 all-own-spec =
     tie.close
     (tie.spec
-    Inv-loop
-    μ-loop
-    loop-holds
-    sub-i
-    own-fits-requires
-    same-length
-    returns
-    loop-less
-    loop-again
-    same-length-2
-    returns-2)
+    width-requires
+    slice-aggregate-gather
+    gather-requires
+    array-share-prefix-ids
+    slice-aggregate-each-owns
+    each-owns-requires
+    returns)

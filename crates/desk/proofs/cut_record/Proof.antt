@@ -28,19 +28,32 @@ part-remove-start : tie.Need-part-remove-start
 part-remove-start c = search needs
 
 part-remove-end : tie.Need-part-remove-end
-part-remove-end c = omega (arith, Blocks.within (c .before .before .before .args .kind), c .before .before .before .pre .0 .long)
+part-remove-end c =
+    let entry = c .before .before .before in
+    omega (arith, Blocks.within (entry .args .kind), entry .pre .0 .long)
 
 width-requires : tie.Need-width-requires
 width-requires c κs = search needs
 
 remove-requires : tie.Need-remove-requires
-remove-requires c κs = Blocks.can-cut (c .before .before .before .before .before .args .kind) (c .before .before .before .before .before .args .blk .now) (c .before .before .before .before .before .pre .0) (c .before .before .before .area-at .result) (c .before .before .size .result) (c .before .before .before .area-at .result + c .before .before .size .result - c .before .before .before .area-at .result) (c .before .before .before .area-at .ensures) (c .before .before .size .ensures) refl (c .width .result) (c .width .ensures) (c .before .before .before .before .before .args .i) (c .before .before .before .before .before .pre .1)
+remove-requires c κs =
+    let at-size = c .before .before in
+    let at-area-at = at-size .before in
+    let entry = at-area-at .before .before in
+    Blocks.can-cut _ _ (entry .pre .0) _ _ (at-area-at .area-at .result + at-size .size .result - at-area-at .area-at .result) (at-area-at .area-at .ensures) (at-size .size .ensures) refl _
+    (c .width .ensures) _ (entry .pre .1)
 
 same-length : tie.Need-same-length
 same-length c = search needs
 
 returns : tie.Need-returns
-returns c = Blocks.is-cut (c .before .before .before .before .before .before .before .before .args .kind) (c .before .before .before .before .before .before .before .before .args .blk .now) (c .before .before .before .before .before .before .before .before .pre .0) (c .before .before .before .before .before .before .area-at .result) (c .before .before .before .before .before .size .result) (c .before .before .before .before .before .before .area-at .result + c .before .before .before .before .before .size .result - c .before .before .before .before .before .before .area-at .result) (c .before .before .before .before .before .before .area-at .ensures) (c .before .before .before .before .before .size .ensures) refl (c .before .before .before .width .result) (c .before .before .before .width .ensures) (c .before .before .before .before .before .before .before .before .args .i) _ (c .before .before .remove .ensures)
+returns c =
+    let at-width = c .before .before .before in
+    let at-size = at-width .before .before in
+    let at-area-at = at-size .before in
+    let entry = at-area-at .before .before in
+    Blocks.is-cut _ _ (entry .pre .0) _ _ (at-area-at .area-at .result + at-size .size .result - at-area-at .area-at .result) (at-area-at .area-at .ensures) (at-size .size .ensures) refl _
+    (at-width .width .ensures) _ _ (c .before .before .remove .ensures)
 
 pub cut-record-spec : {M : Type 1} → statement M
 cut-record-spec =

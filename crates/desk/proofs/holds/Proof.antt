@@ -28,17 +28,25 @@ part-holds-start : tie.Need-part-holds-start
 part-holds-start c = search needs
 
 part-holds-end : tie.Need-part-holds-end
-part-holds-end c = omega (arith, Blocks.within (c .before .before .before .args .kind), c .before .before .before .pre .long)
+part-holds-end c =
+    let entry = c .before .before .before in
+    omega (arith, Blocks.within (entry .args .kind), entry .pre .long)
 
 width-requires : tie.Need-width-requires
 width-requires c κs = search needs
 
 holds-requires : tie.Need-holds-requires
 holds-requires c κs =
-    Blocks.can-hold (c .before .before .before .before .before .args .kind) (c .before .before .before .before .before .args .blk .now) (c .before .before .before .before .before .pre) (c .before .before .before .area-at .result) (c .before .before .size .result) (c .width .result) (c .before .before .before .area-at .result + c .before .before .size .result - c .before .before .before .area-at .result) (c .before .before .before .area-at .ensures) (c .before .before .size .ensures) (c .width .ensures) refl
+    let at-size = c .before .before in
+    let at-area-at = at-size .before in
+    let entry = at-area-at .before .before in
+    Blocks.can-hold (entry .args .kind) (entry .args .blk .now) (entry .pre) (at-area-at .area-at .result) (at-size .size .result) (c .width .result)
+    (at-area-at .area-at .result + at-size .size .result - at-area-at .area-at .result) (at-area-at .area-at .ensures) (at-size .size .ensures) (c .width .ensures) refl
 
 returns : tie.Need-returns
-returns c = Blocks.held _ _ (c .before .before .before .before .before .before .pre) _ _ _ _ (c .before .before .before .before .area-at .ensures) (c .before .before .before .size .ensures) (c .before .width .ensures) refl _ _ (c .holds .ensures)
+returns c =
+    Blocks.held _ _ (c .before .before .before .before .before .before .pre) _ _ _ _ (c .before .before .before .before .area-at .ensures) (c .before .before .before .size .ensures)
+    (c .before .width .ensures) refl _ _ (c .holds .ensures)
 
 pub holds-spec : {M : Type 1} → statement M
 holds-spec =

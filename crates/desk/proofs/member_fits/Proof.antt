@@ -1,29 +1,38 @@
--- `desk::member_fits` meets its contract. The row is lent as a part, and its first word looked up in the table.
+-- `desk::member_fits` meets its contract. The row is lent as a part, and its first word sought among the ids.
 use mathlib.Core.Path.{refl}
-use Prim.Native.Nat.{_-_, _+_, _*_}
+use Prim.Native.Nat.{_-_, _+_, _*_, _≤_, _<_}
 use native.Mathlib.Omega.{arith}
 use lib.ListN.{length}
 use borrow.Author.Needs.{needs}
-use Rattle.rows.specs.Rows.{part}
-use Rattle.desk.specs.Book.{width}
 use Rattle.desk.proofs.Valid
 use Rattle.desk.proofs.member_fits.Statement.{statement}
 use Rattle.desk.proofs.member_fits.Tie as tie
+
+-- the function's places, each seen from the next one: its entry from the width, the width from the test of the record
+abbrev entry : tie.After-width → tie.Start
+entry c = c .before .before .before
+
+abbrev sized : tie.After-ok-record → tie.After-width
+sized c = c .before .before
+
+-- row i lies in the area
+in-row : (c : tie.After-width) → (1 + entry c .args .i * c .width .result + c .width .result ≤ length (entry c .args .part .now)) × (0 < c .width .result)
+in-row c = Valid.in-row (entry c .args .kind) _ _ _ _ (c .width .ensures) (entry c .pre .0) (entry c .pre .1)
 
 width-requires : tie.Need-width-requires
 width-requires c κs = search needs
 
 mul-a : tie.Need-mul-a
-mul-a c = omega (arith, Valid.in-row (c .before .before .before .args .kind) (c .width .result) (c .before .before .before .args .i) (c .before .before .before .args .n) (length (c .before .before .before .args .part .now)) (c .width .ensures) (c .before .before .before .pre .0) (c .before .before .before .pre .1))
+mul-a c = omega (arith, in-row c)
 
 add-a : tie.Need-add-a
-add-a c = omega (arith, Valid.in-row (c .before .before .before .args .kind) (c .width .result) (c .before .before .before .args .i) (c .before .before .before .args .n) (length (c .before .before .before .args .part .now)) (c .width .ensures) (c .before .before .before .pre .0) (c .before .before .before .pre .1))
+add-a c = omega (arith, in-row c)
 
 add-ok-record : tie.Need-add-ok-record
-add-ok-record c = omega (arith, Valid.in-row (c .before .before .before .args .kind) (c .width .result) (c .before .before .before .args .i) (c .before .before .before .args .n) (length (c .before .before .before .args .part .now)) (c .width .ensures) (c .before .before .before .pre .0) (c .before .before .before .pre .1))
+add-ok-record c = omega (arith, in-row c)
 
 mul-ok-record : tie.Need-mul-ok-record
-mul-ok-record c = omega (arith, Valid.in-row (c .before .before .before .args .kind) (c .width .result) (c .before .before .before .args .i) (c .before .before .before .args .n) (length (c .before .before .before .args .part .now)) (c .width .ensures) (c .before .before .before .pre .0) (c .before .before .before .pre .1))
+mul-ok-record c = omega (arith, in-row c)
 
 sub-ok-record : tie.Need-sub-ok-record
 sub-ok-record c = search needs
@@ -32,28 +41,39 @@ part-ok-record-start : tie.Need-part-ok-record-start
 part-ok-record-start c = search needs
 
 part-ok-record-end : tie.Need-part-ok-record-end
-part-ok-record-end c = omega (arith, Valid.in-row (c .before .before .before .args .kind) (c .width .result) (c .before .before .before .args .i) (c .before .before .before .args .n) (length (c .before .before .before .args .part .now)) (c .width .ensures) (c .before .before .before .pre .0) (c .before .before .before .pre .1))
+part-ok-record-end c = omega (arith, in-row c)
 
 ok-record-requires : tie.Need-ok-record-requires
-ok-record-requires c κs = Valid.row-long (c .before .before .before .before .args .kind) (c .before .before .before .before .args .part .now) (c .before .width .result) (c .before .before .before .before .args .i) (1 + c .before .before .before .before .args .i * c .before .width .result + c .before .width .result - (1 + c .before .before .before .before .args .i * c .before .width .result)) (c .before .width .ensures) refl (c .before .before .before .before .args .n) (c .before .before .before .before .pre .0) (c .before .before .before .before .pre .1)
+ok-record-requires c κs =
+    let at-width = c .before in
+    let s = entry at-width in
+    let w = at-width .width .result in
+    let a = 1 + s .args .i * w in
+    Valid.row-long (s .args .kind) (s .args .part .now) w (s .args .i) (a + w - a) (at-width .width .ensures) refl (s .args .n) (s .pre .0) (s .pre .1)
 
 returns : tie.Need-returns
-returns c os rs st = Valid.member-bad _ _ _ _ (1 + c .before .before .before .before .before .before .args .i * c .before .before .before .width .result + c .before .before .before .width .result - (1 + c .before .before .before .before .before .before .args .i * c .before .before .before .width .result)) (c .before .before .before .width .ensures) refl _ (c .before .ok-record .ensures) (c .if1 .taken) os rs
+returns c =
+    let at-width = sized (c .before) in
+    let w = at-width .width .result in
+    let a = 1 + entry at-width .args .i * w in
+    Valid.member-bad _ _ _ _ (a + w - a) (at-width .width .ensures) refl _ (c .before .ok-record .ensures) (c .if1 .taken) _ _
 
-mul-wide : tie.Need-mul-wide
-mul-wide c = omega (arith, Valid.in-row (c .before .before .before .before .before .before .args .kind) (c .before .before .before .width .result) (c .before .before .before .before .before .before .args .i) (c .before .before .before .before .before .before .args .n) (length (c .before .before .before .before .before .before .args .part .now)) (c .before .before .before .width .ensures) (c .before .before .before .before .before .before .pre .0) (c .before .before .before .before .before .before .pre .1))
+mul-among : tie.Need-mul-among
+mul-among c = omega (arith, in-row (sized (c .before)))
 
-shared-slice-read-wide : tie.Need-shared-slice-read-wide
-shared-slice-read-wide c = omega (arith, Valid.in-row (c .before .before .before .before .before .before .before .args .kind) (c .before .before .before .before .width .result) (c .before .before .before .before .before .before .before .args .i) (c .before .before .before .before .before .before .before .args .n) (length (c .before .before .before .before .before .before .before .args .part .now)) (c .before .before .before .before .width .ensures) (c .before .before .before .before .before .before .before .pre .0) (c .before .before .before .before .before .before .before .pre .1))
+shared-slice-read-among : tie.Need-shared-slice-read-among
+shared-slice-read-among c = omega (arith, in-row (sized (c .before .before)))
 
-wide-requires : tie.Need-wide-requires
-wide-requires c κs = search needs
-
-shared-slice-read-result : tie.Need-shared-slice-read-result
-shared-slice-read-result c = omega (arith, c .before .wide .ensures, c .before .before .before .before .before .before .before .before .before .pre .2, Valid.id-in _ _ _ _ (1 + c .before .before .before .before .before .before .before .before .before .args .i * c .before .before .before .before .before .before .width .result + c .before .before .before .before .before .before .width .result - (1 + c .before .before .before .before .before .before .before .before .before .args .i * c .before .before .before .before .before .before .width .result)) (c .before .before .before .before .before .before .width .ensures) refl _ (c .before .before .before .before .ok-record .ensures) (c .before .before .before .if1 .left))
+among-requires : tie.Need-among-requires
+among-requires c κs = search needs
 
 returns-2 : tie.Need-returns-2
-returns-2 c = Valid.member-fits _ _ _ _ (1 + c .before .before .before .before .before .before .before .before .before .args .i * c .before .before .before .before .before .before .width .result + c .before .before .before .before .before .before .width .result - (1 + c .before .before .before .before .before .before .before .before .before .args .i * c .before .before .before .before .before .before .width .result)) (c .before .before .before .before .before .before .width .ensures) refl _ (c .before .before .before .before .ok-record .ensures) (c .before .before .before .if1 .left) _ _ _ (c .before .wide .ensures)
+returns-2 c =
+    let at-if1 = c .before .before in
+    let at-width = sized (at-if1 .before) in
+    let w = at-width .width .result in
+    let a = 1 + entry at-width .args .i * w in
+    Valid.member-fits _ _ _ _ (a + w - a) (at-width .width .ensures) refl _ (at-if1 .before .ok-record .ensures) (at-if1 .if1 .left) _ _ _ (c .among .ensures)
 
 pub member-fits-spec : {M : Type 1} → statement M
 member-fits-spec =
@@ -69,8 +89,7 @@ member-fits-spec =
     part-ok-record-end
     ok-record-requires
     returns
-    mul-wide
-    shared-slice-read-wide
-    wide-requires
-    shared-slice-read-result
+    mul-among
+    shared-slice-read-among
+    among-requires
     returns-2)

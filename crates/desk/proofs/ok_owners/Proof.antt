@@ -1,14 +1,11 @@
 -- `desk::ok_owners` meets its contract. The count, then the scan over the kind's area.
-use mathlib.Core.Path.{refl, sym}
-use mathlib.Core.Bool.{true≢false}
+use mathlib.Core.Path.{refl}
 use Prim.Native.Nat.{_-_, _+_}
 use native.Mathlib.Omega.{arith}
 use borrow.Author.Needs.{needs}
-use Rattle.rows.specs.Rows.{records}
 use Rattle.desk.specs.Book.{most, own, okOwners}
-use Rattle.desk.specs.Desk.{size}
-use Rattle.desk.proofs.Valid
 use Rattle.desk.proofs.Blocks
+use Rattle.desk.proofs.Valid
 use Rattle.desk.proofs.ok_owners.Statement.{statement}
 use Rattle.desk.proofs.ok_owners.Tie as tie
 
@@ -20,7 +17,9 @@ most-requires c κs = search needs
 
 returns : tie.Need-returns
 unfolding okOwners
-returns c = (Valid.list-many (c .before .before .before .before .before .args .kind) (c .before .before .before .before .before .args .blk .now) (c .before .before .before .before .before .pre .0) _ _ (c .before .before .records .ensures) (c .before .most .ensures) _ (c .if1 .taken), λ z. absurd (true≢false (sym z)))
+returns c =
+    let entry = c .before .before .before .before in
+    Valid.list-many _ _ (entry .pre) _ _ (c .before .before .records .ensures) (c .before .most .ensures) _ (c .if1 .taken)
 
 area-at-requires : tie.Need-area-at-requires
 area-at-requires c κs = search needs
@@ -29,10 +28,10 @@ size-requires : tie.Need-size-requires
 size-requires c κs = search needs
 
 add-all-own : tie.Need-add-all-own
-add-all-own c = omega (arith, Blocks.within (c .before .before .before .before .before .before .before .args .kind))
+add-all-own c = omega (arith, Blocks.within (c .before .before .before .before .before .before .args .kind))
 
 mul-all-own : tie.Need-mul-all-own
-mul-all-own c = omega (arith, Blocks.within (c .before .before .before .before .before .before .before .args .kind))
+mul-all-own c = omega (arith, Blocks.within (c .before .before .before .before .before .before .args .kind))
 
 sub-all-own : tie.Need-sub-all-own
 sub-all-own c = search needs
@@ -41,20 +40,34 @@ part-all-own-start : tie.Need-part-all-own-start
 part-all-own-start c = search needs
 
 part-all-own-end : tie.Need-part-all-own-end
-part-all-own-end c = omega (arith, Blocks.within (c .before .before .before .before .before .before .before .args .kind), c .before .before .before .before .before .before .before .pre .0)
+part-all-own-end c =
+    let entry = c .before .before .before .before .before .before in
+    omega (arith, Blocks.within (entry .args .kind), entry .pre)
 
 all-own-requires : tie.Need-all-own-requires
-all-own-requires c κs = (Valid.list-fits (c .before .before .before .before .before .before .before .before .before .args .kind) (c .before .before .before .before .before .before .before .before .before .args .blk .now) (c .before .before .before .before .before .before .before .before .before .pre .0) (c .before .before .before .before .before .before .records .result) (c .before .before .before .before .before .most .result) (c .before .before .before .before .before .before .records .ensures) (c .before .before .before .before .before .most .ensures) (c .before .before .before .area-at .result) (c .before .before .size .result) (c .before .before .before .area-at .result + c .before .before .size .result - c .before .before .before .area-at .result) (c .before .before .before .area-at .ensures) (c .before .before .size .ensures) refl (c .before .before .before .before .if1 .left), c .before .before .before .before .before .before .before .before .before .pre .1)
-
-same-length : tie.Need-same-length
-same-length c = search needs
+all-own-requires c κs =
+    let at-size = c .before in
+    let at-area-at = at-size .before in
+    let at-most = at-area-at .before .before in
+    let at-records = at-most .before in
+    let entry = at-records .before .before in
+    let a = at-area-at .area-at .result in
+    let few = c .before .before .before .if1 .left in (
+      omega (arith, few, at-most .most .ensures),
+      Valid.list-fits _ _ (entry .pre) _ _ (at-records .records .ensures)
+          (at-most .most .ensures) a _ (a + at-size .size .result - a) (at-area-at .area-at .ensures) (at-size .size .ensures) refl few,
+    )
 
 returns-2 : tie.Need-returns-2
 unfolding okOwners
-returns-2 c = (
-  Valid.list-some (c .before .before .before .before .before .before .before .before .before .before .before .before .args .kind) (c .before .before .before .before .before .before .before .before .before .before .before .before .args .blk .now) (c .before .before .before .before .before .before .before .before .before .before .before .before .pre .0) (c .before .before .before .before .before .before .before .before .before .records .result) (c .before .before .before .before .before .before .before .before .most .result) (c .before .before .before .before .before .before .before .before .before .records .ensures) (c .before .before .before .before .before .before .before .before .most .ensures) (c .before .before .before .before .before .before .area-at .result) (c .before .before .before .before .before .size .result) (c .before .before .before .before .before .before .area-at .result + c .before .before .before .before .before .size .result - c .before .before .before .before .before .before .area-at .result) (c .before .before .before .before .before .before .area-at .ensures) (c .before .before .before .before .before .size .ensures) refl (c .before .before .before .before .before .before .before .if1 .left) (own (c .before .before .before .before .before .before .before .before .before .before .before .before .args .kind)) _ (c .before .before .all-own .ensures .0),
-  λ z. rw (Valid.list-ids (c .before .before .before .before .before .before .before .before .before .before .before .before .args .kind) (c .before .before .before .before .before .before .before .before .before .before .before .before .args .blk .now) (c .before .before .before .before .before .before .before .before .before .before .before .before .pre .0) (c .before .before .before .before .before .before .before .before .before .records .result) (c .before .before .before .before .before .before .before .before .most .result) (c .before .before .before .before .before .before .before .before .before .records .ensures) (c .before .before .before .before .before .before .before .before .most .ensures) (c .before .before .before .before .before .before .area-at .result) (c .before .before .before .before .before .size .result) (c .before .before .before .before .before .before .area-at .result + c .before .before .before .before .before .size .result - c .before .before .before .before .before .before .area-at .result) (c .before .before .before .before .before .before .area-at .ensures) (c .before .before .before .before .before .size .ensures) refl (c .before .before .before .before .before .before .before .if1 .left)) at (c .before .before .all-own .ensures .1 z),
-)
+returns-2 c =
+    let at-size = c .before .before in
+    let at-area-at = at-size .before in
+    let at-most = at-area-at .before .before in
+    let at-records = at-most .before in
+    let entry = at-records .before .before in
+    Valid.list-some _ _ (entry .pre) _ _ (at-records .records .ensures) (at-most .most .ensures) _ _ (at-area-at .area-at .result + at-size .size .result - at-area-at .area-at .result)
+    (at-area-at .area-at .ensures) (at-size .size .ensures) refl (c .before .before .before .before .if1 .left) (own _) _ (c .all-own .ensures)
 
 pub ok-owners-spec : {M : Type 1} → statement M
 ok-owners-spec =
@@ -71,5 +84,4 @@ ok-owners-spec =
     part-all-own-start
     part-all-own-end
     all-own-requires
-    same-length
     returns-2)

@@ -1,75 +1,18 @@
--- `desk::ok_record` meets its contract. In each arm the kind is known, and with it the number of fields.
+-- `desk::ok_record` meets its contract.
 use mathlib.Core.Path.{ap}
-use mathlib.Core.Bool.{Bool, _&&_}
-use native.Mathlib.Omega.{arith}
-use lib.ListN.{getD}
-use lib.Dec.{leb}
+use Prim.Native.Nat.{ℕ}
+use lib.Dec.{eqb}
+use Rattle.desk.specs.Book.{okRecord}
 use borrow.Author.Needs.{needs}
-use Rattle.desk.proofs.Blocks
 use Rattle.desk.proofs.ok_record.Statement.{statement}
 use Rattle.desk.proofs.ok_record.Tie as tie
 
-enum-told : tie.Need-enum-told
-enum-told c = search needs
-
-ok-box-requires : tie.Need-ok-box-requires
-ok-box-requires c κs = Blocks.of-kind _ (c .enum-told .given .1) (c .before .before .before .pre)
-
-enum-told-2 : tie.Need-enum-told-2
-enum-told-2 c = search needs
-
-ok-point-requires : tie.Need-ok-point-requires
-ok-point-requires c κs = Blocks.of-kind _ (c .enum-told2 .given .1) (c .before .before .before .pre)
-
-shared-slice-read-result : tie.Need-shared-slice-read-result
-shared-slice-read-result c = omega (arith, Blocks.of-kind _ (c .before .before .enum-told2 .given .1) (c .before .before .before .before .before .pre))
-
-enum-told-3 : tie.Need-enum-told-3
-enum-told-3 c = search needs
-
-shared-slice-read-ok-id : tie.Need-shared-slice-read-ok-id
-shared-slice-read-ok-id c = omega (arith, Blocks.of-kind _ (c .before .enum-told3 .given .1) (c .before .before .before .before .pre))
-
-ok-id-requires : tie.Need-ok-id-requires
-ok-id-requires c κs = search needs
-
-enum-told-4 : tie.Need-enum-told-4
-enum-told-4 c = search needs
-
-ok-point-requires-2 : tie.Need-ok-point-requires-2
-ok-point-requires-2 c κs = Blocks.of-kind _ (c .enum-told4 .given .1) (c .before .before .before .pre)
-
-shared-slice-read-result-2 : tie.Need-shared-slice-read-result-2
-shared-slice-read-result-2 c = omega (arith, Blocks.of-kind _ (c .before .before .enum-told4 .given .1) (c .before .before .before .before .before .pre))
+fields-number-requires : tie.Need-fields-number-requires
+fields-number-requires c κs = search needs
 
 returns : tie.Need-returns
-returns c = Blocks.ok-record _ _ (c .before .enum-told .given .1) (c .before .before .before .before .pre) (c .ok-box .ensures)
-
-returns-2 : tie.Need-returns-2
-returns-2 c = Blocks.ok-record _ _ (c .before .before .enum-told2 .given .1) (c .before .before .before .before .before .pre) (ap (λ (b : Bool). b && leb (getD (c .before .before .before .before .before .args .row .now) 3 0) 15) (c .before .ok-point .ensures))
-
-returns-3 : tie.Need-returns-3
-returns-3 c = Blocks.ok-record _ _ (c .before .before .enum-told3 .given .1) (c .before .before .before .before .before .pre) (c .ok-id .ensures)
-
-returns-4 : tie.Need-returns-4
-returns-4 c = Blocks.ok-record _ _ (c .before .before .enum-told4 .given .1) (c .before .before .before .before .before .pre) (ap (λ (b : Bool). b && leb (getD (c .before .before .before .before .before .args .row .now) 3 0) 1) (c .before .ok-point2 .ensures))
+unfolding okRecord
+returns c = ap (λ (n : ℕ). eqb n 0) (c .fields-number .ensures)
 
 pub ok-record-spec : {M : Type 1} → statement M
-ok-record-spec =
-    tie.close
-    (tie.spec
-    enum-told
-    ok-box-requires
-    enum-told-2
-    ok-point-requires
-    shared-slice-read-result
-    enum-told-3
-    shared-slice-read-ok-id
-    ok-id-requires
-    enum-told-4
-    ok-point-requires-2
-    shared-slice-read-result-2
-    returns
-    returns-2
-    returns-3
-    returns-4)
+ok-record-spec = tie.close (tie.spec fields-number-requires returns)

@@ -1,30 +1,39 @@
--- `desk::own_fits` meets its contract. The row is lent as a part, and its first word stamped.
-use mathlib.Core.Path.{refl, sym}
-use mathlib.Core.Bool.{true≢false}
-use Prim.Native.Nat.{_-_, _+_, _*_}
+-- `desk::own_fits` meets its contract. The row is lent as a part, and its first word sought among the ids behind its own.
+use mathlib.Core.Path.{_≡_, refl, ap, _∙_}
+use Prim.Native.Nat.{_-_, _+_, _*_, _≤_, _<_}
 use native.Mathlib.Omega.{arith}
 use lib.ListN.{length}
 use borrow.Author.Needs.{needs}
-use Rattle.rows.specs.Rows.{part}
-use Rattle.desk.specs.Book.{width}
+use Rattle.rows.specs.Rows.{isIn}
 use Rattle.desk.proofs.Valid
 use Rattle.desk.proofs.own_fits.Statement.{statement}
 use Rattle.desk.proofs.own_fits.Tie as tie
+
+-- the function's places, each seen from the next one: its entry from the width, the width from the test of the record
+abbrev entry : tie.After-width → tie.Start
+entry c = c .before .before .before
+
+abbrev sized : tie.After-ok-record → tie.After-width
+sized c = c .before .before
+
+-- row i lies in the area
+in-row : (c : tie.After-width) → (1 + entry c .args .i * c .width .result + c .width .result ≤ length (entry c .args .part .now)) × (0 < c .width .result)
+in-row c = Valid.in-row (entry c .args .kind) _ _ _ _ (c .width .ensures) (entry c .pre .0) (entry c .pre .1)
 
 width-requires : tie.Need-width-requires
 width-requires c κs = search needs
 
 mul-a : tie.Need-mul-a
-mul-a c = omega (arith, Valid.in-row (c .before .before .before .args .kind) (c .width .result) (c .before .before .before .args .i) (c .before .before .before .args .n) (length (c .before .before .before .args .part .now)) (c .width .ensures) (c .before .before .before .pre .0 .0) (c .before .before .before .pre .0 .1))
+mul-a c = omega (arith, in-row c)
 
 add-a : tie.Need-add-a
-add-a c = omega (arith, Valid.in-row (c .before .before .before .args .kind) (c .width .result) (c .before .before .before .args .i) (c .before .before .before .args .n) (length (c .before .before .before .args .part .now)) (c .width .ensures) (c .before .before .before .pre .0 .0) (c .before .before .before .pre .0 .1))
+add-a c = omega (arith, in-row c)
 
 add-ok-record : tie.Need-add-ok-record
-add-ok-record c = omega (arith, Valid.in-row (c .before .before .before .args .kind) (c .width .result) (c .before .before .before .args .i) (c .before .before .before .args .n) (length (c .before .before .before .args .part .now)) (c .width .ensures) (c .before .before .before .pre .0 .0) (c .before .before .before .pre .0 .1))
+add-ok-record c = omega (arith, in-row c)
 
 mul-ok-record : tie.Need-mul-ok-record
-mul-ok-record c = omega (arith, Valid.in-row (c .before .before .before .args .kind) (c .width .result) (c .before .before .before .args .i) (c .before .before .before .args .n) (length (c .before .before .before .args .part .now)) (c .width .ensures) (c .before .before .before .pre .0 .0) (c .before .before .before .pre .0 .1))
+mul-ok-record c = omega (arith, in-row c)
 
 sub-ok-record : tie.Need-sub-ok-record
 sub-ok-record c = search needs
@@ -33,31 +42,60 @@ part-ok-record-start : tie.Need-part-ok-record-start
 part-ok-record-start c = search needs
 
 part-ok-record-end : tie.Need-part-ok-record-end
-part-ok-record-end c = omega (arith, Valid.in-row (c .before .before .before .args .kind) (c .width .result) (c .before .before .before .args .i) (c .before .before .before .args .n) (length (c .before .before .before .args .part .now)) (c .width .ensures) (c .before .before .before .pre .0 .0) (c .before .before .before .pre .0 .1))
+part-ok-record-end c = omega (arith, in-row c)
 
 ok-record-requires : tie.Need-ok-record-requires
-ok-record-requires c κs = Valid.row-long (c .before .before .before .before .args .kind) (c .before .before .before .before .args .part .now) (c .before .width .result) (c .before .before .before .before .args .i) (1 + c .before .before .before .before .args .i * c .before .width .result + c .before .width .result - (1 + c .before .before .before .before .args .i * c .before .width .result)) (c .before .width .ensures) refl (c .before .before .before .before .args .n) (c .before .before .before .before .pre .0 .0) (c .before .before .before .before .pre .0 .1)
+ok-record-requires c κs =
+    let at-width = c .before in
+    let s = entry at-width in
+    let w = at-width .width .result in
+    let a = 1 + s .args .i * w in
+    Valid.row-long (s .args .kind) (s .args .part .now) w (s .args .i) (a + w - a) (at-width .width .ensures) refl (s .args .n) (s .pre .0) (s .pre .1)
 
 returns : tie.Need-returns
-returns c = (Valid.own-bad _ _ _ _ (1 + c .before .before .before .before .before .before .args .i * c .before .before .before .width .result + c .before .before .before .width .result - (1 + c .before .before .before .before .before .before .args .i * c .before .before .before .width .result)) (c .before .before .before .width .ensures) refl _ (c .before .ok-record .ensures) (c .if1 .taken) _, λ z. absurd (true≢false (sym z)))
+returns c =
+    let at-width = sized (c .before) in
+    let w = at-width .width .result in
+    let a = 1 + entry at-width .args .i * w in
+    Valid.own-bad _ _ _ _ (a + w - a) (at-width .width .ensures) refl _ (c .before .ok-record .ensures) (c .if1 .taken) _
 
-mul-stamp-id : tie.Need-mul-stamp-id
-mul-stamp-id c = omega (arith, Valid.in-row (c .before .before .before .before .before .before .before .args .kind) (c .before .before .before .before .width .result) (c .before .before .before .before .before .before .before .args .i) (c .before .before .before .before .before .before .before .args .n) (length (c .before .before .before .before .before .before .before .args .part .now)) (c .before .before .before .before .width .ensures) (c .before .before .before .before .before .before .before .pre .0 .0) (c .before .before .before .before .before .before .before .pre .0 .1))
+-- there are as many ids as rows
+ids-long : (s : tie.Start) → length (s .args .ids .now) ≡ s .args .n
+ids-long s = Valid.ids-long (s .args .kind) (s .args .part .now) _ (s .args .n) (s .pre .2)
 
-shared-slice-read-stamp-id : tie.Need-shared-slice-read-stamp-id
-shared-slice-read-stamp-id c = omega (arith, Valid.in-row (c .before .before .before .before .before .before .before .before .args .kind) (c .before .before .before .before .before .width .result) (c .before .before .before .before .before .before .before .before .args .i) (c .before .before .before .before .before .before .before .before .args .n) (length (c .before .before .before .before .before .before .before .before .args .part .now)) (c .before .before .before .before .before .width .ensures) (c .before .before .before .before .before .before .before .before .pre .0 .0) (c .before .before .before .before .before .before .before .before .pre .0 .1))
+add-among : tie.Need-add-among
+add-among c = search needs
 
-stamp-id-requires : tie.Need-stamp-id-requires
-stamp-id-requires c κs = (Valid.id-in _ _ _ _ (1 + c .before .before .before .before .before .before .before .before .args .i * c .before .before .before .before .before .width .result + c .before .before .before .before .before .width .result - (1 + c .before .before .before .before .before .before .before .before .args .i * c .before .before .before .before .before .width .result)) (c .before .before .before .before .before .width .ensures) refl _ (c .before .before .before .ok-record .ensures) (c .before .before .if1 .left), c .before .before .before .before .before .before .before .before .pre .1 .long)
+mul-among : tie.Need-mul-among
+mul-among c = omega (arith, ids-long (entry (sized (c .before))))
 
-same-length : tie.Need-same-length
-same-length c = search needs
+sub-among : tie.Need-sub-among
+sub-among c = omega (arith, ids-long (entry (sized (c .before))))
+
+part-among-start : tie.Need-part-among-start
+part-among-start c = omega (arith, ids-long (entry (sized (c .before))))
+
+part-among-end : tie.Need-part-among-end
+part-among-end c = search needs
+
+mul-among-2 : tie.Need-mul-among-2
+mul-among-2 c = omega (arith, in-row (sized (c .before .before)))
+
+shared-slice-read-among : tie.Need-shared-slice-read-among
+shared-slice-read-among c = omega (arith, in-row (sized (c .before .before .before)))
+
+among-requires : tie.Need-among-requires
+among-requires c κs = search needs
 
 returns-2 : tie.Need-returns-2
-returns-2 c = (
-  Valid.own-fits _ _ _ _ (1 + c .before .before .before .before .before .before .before .before .before .before .before .args .i * c .before .before .before .before .before .before .before .before .width .result + c .before .before .before .before .before .before .before .before .width .result - (1 + c .before .before .before .before .before .before .before .before .before .before .before .args .i * c .before .before .before .before .before .before .before .before .width .result)) (c .before .before .before .before .before .before .before .before .width .ensures) refl _ (c .before .before .before .before .before .before .ok-record .ensures) (c .before .before .before .before .before .if1 .left) _ _ _ (c .before .before .before .before .before .before .before .before .before .before .before .pre .1) _ (c .before .before .stamp-id .ensures .0),
-  λ _. Valid.own-stamped _ _ _ _ (1 + c .before .before .before .before .before .before .before .before .before .before .before .args .i * c .before .before .before .before .before .before .before .before .width .result + c .before .before .before .before .before .before .before .before .width .result - (1 + c .before .before .before .before .before .before .before .before .before .before .before .args .i * c .before .before .before .before .before .before .before .before .width .result)) (c .before .before .before .before .before .before .before .before .width .ensures) refl _ (c .before .before .before .before .before .before .ok-record .ensures) (c .before .before .before .before .before .if1 .left) _ _ _ _ (c .before .before .before .before .before .before .before .before .before .before .before .pre .0 .0) (c .before .before .before .before .before .before .before .before .before .before .before .pre .1) (c .before .before .stamp-id .ensures .1),
-)
+returns-2 c =
+    let at-if1 = c .before .before .before in
+    let at-width = sized (at-if1 .before) in
+    let s = entry at-width in
+    let w = at-width .width .result in
+    let a = 1 + s .args .i * w in
+    let sought = c .among .ensures ∙ ap (isIn _) (Valid.ids-rest (s .args .i + 1) _ (s .args .ids .now) refl) in
+    Valid.own-fits _ _ _ _ (a + w - a) (at-width .width .ensures) refl _ (at-if1 .before .ok-record .ensures) (at-if1 .if1 .left) _ (s .args .ids .now) _ (s .pre .2) sought
 
 pub own-fits-spec : {M : Type 1} → statement M
 own-fits-spec =
@@ -73,8 +111,12 @@ own-fits-spec =
     part-ok-record-end
     ok-record-requires
     returns
-    mul-stamp-id
-    shared-slice-read-stamp-id
-    stamp-id-requires
-    same-length
+    add-among
+    mul-among
+    sub-among
+    part-among-start
+    part-among-end
+    mul-among-2
+    shared-slice-read-among
+    among-requires
     returns-2)

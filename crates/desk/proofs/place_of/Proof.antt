@@ -32,16 +32,31 @@ part-find-start : tie.Need-part-find-start
 part-find-start c = search needs
 
 part-find-end : tie.Need-part-find-end
-part-find-end c = omega (arith, Blocks.within (c .before .before .before .before .args .kind), c .before .before .before .before .pre .long)
+part-find-end c =
+    let entry = c .before .before .before .before in
+    omega (arith, Blocks.within (entry .args .kind), entry .pre .long)
 
 width-requires : tie.Need-width-requires
 width-requires c κs = search needs
 
 find-requires : tie.Need-find-requires
-find-requires c κs = Blocks.can-find (c .before .before .before .before .before .before .args .kind) (c .before .before .before .before .before .before .args .blk .now) (c .before .before .before .before .before .before .pre) (c .before .before .before .area-at .result) (c .before .before .size .result) (c .before .before .before .area-at .result + c .before .before .size .result - c .before .before .before .area-at .result) (c .before .before .before .area-at .ensures) (c .before .before .size .ensures) refl (c .width .result) (c .width .ensures) (c .before .before .before .before .records .result) (c .before .before .before .before .records .ensures)
+find-requires c κs =
+    let at-size = c .before .before in
+    let at-area-at = at-size .before in
+    let at-records = at-area-at .before in
+    let entry = at-records .before .before in
+    Blocks.can-find _ _ (entry .pre) _ _ (at-area-at .area-at .result + at-size .size .result - at-area-at .area-at .result) (at-area-at .area-at .ensures) (at-size .size .ensures) refl _
+    (c .width .ensures) _ (at-records .records .ensures)
 
 returns : tie.Need-returns
-returns c = Blocks.is-place (c .before .before .before .before .before .before .before .args .kind) (c .before .before .before .before .before .before .before .args .blk .now) (c .before .before .before .before .before .before .before .pre) (c .before .before .before .before .area-at .result) (c .before .before .before .size .result) (c .before .before .before .before .area-at .result + c .before .before .before .size .result - c .before .before .before .before .area-at .result) (c .before .before .before .before .area-at .ensures) (c .before .before .before .size .ensures) refl (c .before .width .result) (c .before .width .ensures) (c .before .before .before .before .before .records .result) (c .before .before .before .before .before .before .before .args .id) _ (c .before .before .before .before .before .records .ensures) (c .find .ensures)
+returns c =
+    let at-width = c .before in
+    let at-size = at-width .before .before in
+    let at-area-at = at-size .before in
+    let at-records = at-area-at .before in
+    let entry = at-records .before .before in
+    Blocks.is-place _ _ (entry .pre) _ _ (at-area-at .area-at .result + at-size .size .result - at-area-at .area-at .result) (at-area-at .area-at .ensures) (at-size .size .ensures) refl _
+    (at-width .width .ensures) _ _ _ (at-records .records .ensures) (c .find .ensures)
 
 pub place-of-spec : {M : Type 1} → statement M
 place-of-spec =

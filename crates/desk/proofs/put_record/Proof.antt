@@ -27,18 +27,28 @@ part-append-start : tie.Need-part-append-start
 part-append-start c = search needs
 
 part-append-end : tie.Need-part-append-end
-part-append-end c = omega (arith, Blocks.within (c .before .before .before .before .args .kind), c .before .before .before .before .pre .0 .long)
+part-append-end c =
+    let entry = c .before .before .before .before in
+    omega (arith, Blocks.within (entry .args .kind), entry .pre .0 .long)
 
 append-requires : tie.Need-append-requires
 append-requires c κs =
-    Blocks.can-put (c .before .before .before .before .before .args .kind) (c .before .before .before .before .before .args .blk .now) (c .before .before .before .before .before .args .row .now) (c .before .before .before .before .before .pre .0) (c .before .before .before .before .before .pre .1 .0) (c .before .before .before .before .before .pre .1 .1) (c .before .before .area-at .result) (c .before .size .result) (c .before .before .area-at .result + c .before .size .result - c .before .before .area-at .result) (c .before .before .area-at .ensures) (c .before .size .ensures) refl
+    let at-size = c .before in
+    let at-area-at = at-size .before in
+    let entry = at-area-at .before .before .before in
+    Blocks.can-put (entry .args .kind) (entry .args .blk .now) (entry .args .row .now) (entry .pre .0) (entry .pre .1 .0) (entry .pre .1 .1) (at-area-at .area-at .result)
+    (at-size .size .result) (at-area-at .area-at .result + at-size .size .result - at-area-at .area-at .result) (at-area-at .area-at .ensures) (at-size .size .ensures) refl
 
 same-length : tie.Need-same-length
 same-length c = search needs
 
 returns : tie.Need-returns
 returns c =
-    Blocks.is-put (c .before .before .before .before .before .before .before .before .args .kind) (c .before .before .before .before .before .before .before .before .args .blk .now) (c .before .before .before .before .before .before .before .before .args .row .now) (c .before .before .before .before .before .before .before .before .pre .0) (c .before .before .before .before .before .before .before .before .pre .1 .0) (c .before .before .before .before .before .before .before .before .pre .1 .1) (c .before .before .before .before .before .area-at .result) (c .before .before .before .before .size .result) (c .before .before .before .before .before .area-at .result + c .before .before .before .before .size .result - c .before .before .before .before .before .area-at .result) (c .before .before .before .before .before .area-at .ensures) (c .before .before .before .before .size .ensures) refl _ (c .before .before .append .ensures)
+    let at-size = c .before .before .before .before in
+    let at-area-at = at-size .before in
+    let entry = at-area-at .before .before .before in
+    Blocks.is-put _ _ _ (entry .pre .0) (entry .pre .1 .0) (entry .pre .1 .1) _ _ (at-area-at .area-at .result + at-size .size .result - at-area-at .area-at .result)
+    (at-area-at .area-at .ensures) (at-size .size .ensures) refl _ (c .before .before .append .ensures)
 
 pub put-record-spec : {M : Type 1} → statement M
 put-record-spec =

@@ -1,54 +1,56 @@
 -- `desk::undo` meets its contract. The tests in their order; the depth is the length of the pile.
 use mathlib.Core.Path.{refl}
-use mathlib.Core.Bool.{true}
 use native.Mathlib.Omega.{arith}
-use borrow.Author.Needs.{needs}
-use Rattle.desk.specs.Desk.{undone}
 use Rattle.desk.proofs.Whole
+use borrow.Author.Needs.{needs}
 use Rattle.desk.proofs.undo.Statement.{statement}
 use Rattle.desk.proofs.undo.Tie as tie
 
-returns : tie.Need-returns
-returns c = Whole.says-1 (c .before .before .args .desk .now) (undone (c .before .before .args .desk .now)) _ (c .if1 .taken)
-
-ok-desk-requires : tie.Need-ok-desk-requires
-ok-desk-requires c κs = search needs
+validate-requires : tie.Need-validate-requires
+validate-requires c κs = search needs
 
 same-length : tie.Need-same-length
 same-length c = search needs
 
-returns-2 : tie.Need-returns-2
-returns-2 c = Whole.says-2 (c .before .before .before .before .before .args .desk .now) (undone (c .before .before .before .before .before .args .desk .now)) (c .before .before .before .if1 .left) _ (c .before .ok-desk .ensures) _ _ (c .if2 .taken)
+returns : tie.Need-returns
+returns c = Whole.says-d _ _ (c .before .validate .ensures) _ _ _ (c .if1 .taken)
 
-slice-read-if3 : tie.Need-slice-read-if3
-slice-read-if3 c = search needs
+slice-read-if2 : tie.Need-slice-read-if2
+slice-read-if2 c =
+    let entry = c .before .before .before .before .before in
+    omega (arith, (Whole.sound-at _ _ (c .before .before .validate .ensures) (c .before .if1 .left)) .long)
 
 same-length-2 : tie.Need-same-length-2
 same-length-2 c = search needs
 
-returns-3 : tie.Need-returns-3
-returns-3 c = Whole.says-n (c .before .before .before .before .before .before .before .args .desk .now) (undone (c .before .before .before .before .before .before .before .args .desk .now)) (c .before .before .before .before .before .if1 .left) _ (c .before .before .before .ok-desk .ensures) _ _ (c .before .before .if2 .left) true refl refl 7 (Whole.empty-pile (c .before .before .before .before .before .before .before .args .desk .now) (c .if3 .taken)) (omega arith)
+returns-2 : tie.Need-returns-2
+returns-2 c = Whole.says-n _ _ (c .before .before .before .validate .ensures) _ _ _ (c .before .before .if1 .left) 0 refl refl 7 (Whole.empty-pile _ (c .if2 .taken)) (omega arith)
 
-unlay-requires : tie.Need-unlay-requires
-unlay-requires c κs = search needs
+take-latest-requires : tie.Need-take-latest-requires
+take-latest-requires c κs =
+    let entry = c .before .before .before .before .before .before .before in
+    (Whole.sound-at _ _ (c .before .before .before .before .validate .ensures) (c .before .before .before .if1 .left), omega arith)
 
 same-length-3 : tie.Need-same-length-3
 same-length-3 c = search needs
 
-returns-4 : tie.Need-returns-4
-returns-4 c = Whole.says-0 (c .before .before .before .before .before .before .before .before .before .before .before .args .desk .now) (undone (c .before .before .before .before .before .before .before .before .before .before .before .args .desk .now)) (c .before .before .before .before .before .before .before .before .before .if1 .left) _ (c .before .before .before .before .before .before .before .ok-desk .ensures) _ _ (c .before .before .before .before .before .before .if2 .left) true refl refl 0 (Whole.some-pile (c .before .before .before .before .before .before .before .before .before .before .before .args .desk .now) (c .before .before .before .before .if3 .left)) refl _ (c .before .before .unlay .ensures)
+returns-3 : tie.Need-returns-3
+returns-3 c =
+    let at-if1 = c .before .before .before .before .before .before in
+    let at-validate = at-if1 .before in
+    Whole.says-0 _ _ (at-validate .validate .ensures) _ _ _ (at-if1 .if1 .left) 0 refl refl 0 (Whole.some-pile _ (c .before .before .before .before .if2 .left)) refl _
+    (c .before .before .take-latest .ensures)
 
 pub undo-spec : {M : Type 1} → statement M
 undo-spec =
     tie.close
     (tie.spec
-    returns
-    ok-desk-requires
+    validate-requires
     same-length
-    returns-2
-    slice-read-if3
+    returns
+    slice-read-if2
     same-length-2
-    returns-3
-    unlay-requires
+    returns-2
+    take-latest-requires
     same-length-3
-    returns-4)
+    returns-3)

@@ -1,6 +1,6 @@
 -- `desk_layout::layout_lent` meets its contract. The tests in their order.
 use borrow.Author.Needs.{needs}
-use Rattle.select.proofs.Lent.{desk-valid}
+use Rattle.desk.proofs.Whole.{sound-at}
 use Rattle.desk_layout.proofs.Call.{lent-2, lent-2c, lent-on}
 use Rattle.desk_layout.proofs.layout_lent.Statement.{statement}
 use Rattle.desk_layout.proofs.layout_lent.Tie as tie
@@ -27,7 +27,13 @@ same-length-5 : tie.Need-same-length-5
 same-length-5 c = search needs
 
 returns : tie.Need-returns
-returns c = lent-2 (c .before .before .before .before .before .before .before .before .before .before .before .before .before .before .before .before .before .before .before .before .args .desk .now) (c .before .before .before .before .before .before .before .before .before .before .before .before .before .before .before .before .before .before .before .before .args .prune) (c .before .before .before .before .before .before .before .before .before .before .before .before .before .before .before .before .before .before .before .before .args .separate) (c .before .before .before .before .before .before .before .before .before .before .before .before .before .before .before .before .before .before .before .before .args .nets .now) (c .before .before .before .before .before .before .before .before .before .before .before .before .before .before .before .before .before .before .before .before .args .x .now) (c .before .before .before .before .before .before .before .before .before .before .before .before .before .before .before .before .before .before .before .before .args .y .now) (c .before .before .before .before .before .before .before .before .before .before .before .before .before .before .before .before .before .before .before .before .args .kinds .now) (c .before .before .before .before .before .before .before .before .before .before .before .before .before .before .before .before .before .before .before .before .args .joins .now) _ (c .before .before .before .before .before .before .before .before .before .before .before .before .before .before .before .before .before .before .before .before .pre .0) (c .before .before .before .before .before .before .before .before .before .before .before .before .before .before .before .validate .ensures) (c .before .before .before .before .before .before .before .before .before .before .before .before .before .before .if1 .taken) _ (c .before .before .before .before .before .before .before .before .no-drawing .ensures)
+returns c =
+    let at-no-drawing = c .before .before .before .before .before .before .before .before in
+    let at-if1 = at-no-drawing .before .before .before .before .before .before in
+    let at-validate = at-if1 .before in
+    let entry = at-validate .before .before .before .before .before in
+    lent-2 (entry .args .desk .now) (entry .args .prune) (entry .args .separate) (entry .args .nets .now) (entry .args .x .now) (entry .args .y .now) (entry .args .kinds .now)
+    (entry .args .joins .now) _ (entry .pre .0) (at-validate .validate .ensures) (at-if1 .if1 .taken) _ (at-no-drawing .no-drawing .ensures)
 
 ok-choice-requires : tie.Need-ok-choice-requires
 ok-choice-requires c κs = search needs
@@ -51,10 +57,23 @@ same-length-10 : tie.Need-same-length-10
 same-length-10 c = search needs
 
 returns-2 : tie.Need-returns-2
-returns-2 c = lent-2c (c .before .before .before .before .before .before .before .before .before .before .before .before .before .before .before .before .before .before .before .before .before .before .args .desk .now) (c .before .before .before .before .before .before .before .before .before .before .before .before .before .before .before .before .before .before .before .before .before .before .args .prune) (c .before .before .before .before .before .before .before .before .before .before .before .before .before .before .before .before .before .before .before .before .before .before .args .separate) (c .before .before .before .before .before .before .before .before .before .before .before .before .before .before .before .before .before .before .before .before .before .before .args .nets .now) (c .before .before .before .before .before .before .before .before .before .before .before .before .before .before .before .before .before .before .before .before .before .before .args .x .now) (c .before .before .before .before .before .before .before .before .before .before .before .before .before .before .before .before .before .before .before .before .before .before .args .y .now) (c .before .before .before .before .before .before .before .before .before .before .before .before .before .before .before .before .before .before .before .before .before .before .args .kinds .now) (c .before .before .before .before .before .before .before .before .before .before .before .before .before .before .before .before .before .before .before .before .before .before .args .joins .now) _ (c .before .before .before .before .before .before .before .before .before .before .before .before .before .before .before .before .before .before .before .before .before .before .pre .0) (c .before .before .before .before .before .before .before .before .before .before .before .before .before .before .before .before .before .validate .ensures) (c .before .before .before .before .before .before .before .before .before .before .before .before .before .before .before .before .if1 .left) _ (c .before .before .before .before .before .before .before .before .before .before .before .before .before .before .before .ok-choice .ensures) (c .before .before .before .before .before .before .before .before .before .before .before .before .before .before .if2 .taken) _ (c .before .before .before .before .before .before .before .before .no-drawing2 .ensures)
+returns-2 c =
+    let at-no-drawing2 = c .before .before .before .before .before .before .before .before in
+    let at-if2 = at-no-drawing2 .before .before .before .before .before .before in
+    let at-ok-choice = at-if2 .before in
+    let at-if1 = at-ok-choice .before in
+    let at-validate = at-if1 .before in
+    let entry = at-validate .before .before .before .before .before in
+    lent-2c (entry .args .desk .now) (entry .args .prune) (entry .args .separate) (entry .args .nets .now) (entry .args .x .now) (entry .args .y .now) (entry .args .kinds .now)
+    (entry .args .joins .now) _ (entry .pre .0) (at-validate .validate .ensures) (at-if1 .if1 .left) _ (at-ok-choice .ok-choice .ensures) (at-if2 .if2 .taken) _
+    (at-no-drawing2 .no-drawing2 .ensures)
 
 layout-valid-requires : tie.Need-layout-valid-requires
-layout-valid-requires c κs = (c .before .before .before .before .before .before .before .before .before .before .before .before .before .pre .0, (desk-valid (c .before .before .before .before .before .before .before .before .before .before .before .before .before .args .desk .now) _ (c .before .before .before .before .before .before .before .before .before .before .before .before .before .pre .0) (c .before .before .before .before .before .before .before .before .validate .ensures) (c .before .before .before .before .before .before .before .if1 .left), c .before .before .before .before .before .before .before .before .before .before .before .before .before .pre .1))
+layout-valid-requires c κs =
+    let at-if1 = c .before .before .before .before .before .before .before in
+    let at-validate = at-if1 .before in
+    let entry = at-validate .before .before .before .before .before in
+    (entry .pre .0, (sound-at _ _ (at-validate .validate .ensures) (at-if1 .if1 .left) .book, entry .pre .1))
 
 same-length-11 : tie.Need-same-length-11
 same-length-11 c = search needs
@@ -72,7 +91,16 @@ same-length-15 : tie.Need-same-length-15
 same-length-15 c = search needs
 
 returns-3 : tie.Need-returns-3
-returns-3 c = lent-on (c .before .before .before .before .before .before .before .before .before .before .before .before .before .before .before .before .before .before .before .before .before .before .args .desk .now) (c .before .before .before .before .before .before .before .before .before .before .before .before .before .before .before .before .before .before .before .before .before .before .args .prune) (c .before .before .before .before .before .before .before .before .before .before .before .before .before .before .before .before .before .before .before .before .before .before .args .separate) (c .before .before .before .before .before .before .before .before .before .before .before .before .before .before .before .before .before .before .before .before .before .before .args .nets .now) (c .before .before .before .before .before .before .before .before .before .before .before .before .before .before .before .before .before .before .before .before .before .before .args .x .now) (c .before .before .before .before .before .before .before .before .before .before .before .before .before .before .before .before .before .before .before .before .before .before .args .y .now) (c .before .before .before .before .before .before .before .before .before .before .before .before .before .before .before .before .before .before .before .before .before .before .args .kinds .now) (c .before .before .before .before .before .before .before .before .before .before .before .before .before .before .before .before .before .before .before .before .before .before .args .joins .now) _ (c .before .before .before .before .before .before .before .before .before .before .before .before .before .before .before .before .before .before .before .before .before .before .pre .0) (c .before .before .before .before .before .before .before .before .before .before .before .before .before .before .before .before .before .validate .ensures) (c .before .before .before .before .before .before .before .before .before .before .before .before .before .before .before .before .if1 .left) _ (c .before .before .before .before .before .before .before .before .before .before .before .before .before .before .before .ok-choice .ensures) (c .before .before .before .before .before .before .before .before .before .before .before .before .before .before .if2 .left) _ _ (c .before .before .before .before .before .before .before .before .layout-valid .ensures)
+returns-3 c =
+    let at-layout-valid = c .before .before .before .before .before .before .before .before in
+    let at-if2 = at-layout-valid .before .before .before .before .before .before in
+    let at-ok-choice = at-if2 .before in
+    let at-if1 = at-ok-choice .before in
+    let at-validate = at-if1 .before in
+    let entry = at-validate .before .before .before .before .before in
+    lent-on (entry .args .desk .now) (entry .args .prune) (entry .args .separate) (entry .args .nets .now) (entry .args .x .now) (entry .args .y .now) (entry .args .kinds .now)
+    (entry .args .joins .now) _ (entry .pre .0) (at-validate .validate .ensures) (at-if1 .if1 .left) _ (at-ok-choice .ok-choice .ensures) (at-if2 .if2 .left) _ _
+    (at-layout-valid .layout-valid .ensures)
 
 pub layout-lent-spec : {M : Type 1} → statement M
 layout-lent-spec =
