@@ -1,5 +1,7 @@
 //! The fixed list of calls on a desk; docs/ORACLE.md describes its form.
 
+mod handed;
+
 use crate::desk::{Desk, Lists, Place, MAX_BOXES, MAX_ENDS, MAX_NETS, MAX_PORTS};
 use crate::page_text::{self, push_line};
 use crate::pages::{self, Kind};
@@ -23,6 +25,54 @@ enum Call {
     Text(Vec<u8>),
 }
 
+impl Call {
+    /// Its word in the list, and its arguments.
+    fn line(&self) -> (&'static str, Vec<i64>) {
+        match *self {
+            Self::Box(id, min, max) => ("box", vec![id, min.x, min.y, max.x, max.y]),
+            Self::Port(id, at, directions) => ("port", vec![id, at.x, at.y, directions]),
+            Self::Net(id) => ("net", vec![id]),
+            Self::End(id, at, mark) => ("end", vec![id, at.x, at.y, mark]),
+            Self::RetireBox(id) => ("rbox", vec![id]),
+            Self::RetirePort(place) => ("rport", vec![place]),
+            Self::RetireNet(id) => ("rnet", vec![id]),
+            Self::RetireEnd(place) => ("rend", vec![place]),
+            Self::Undo => ("undo", vec![]),
+            Self::Text(ref text) => ("text", vec![text.len() as i64]),
+        }
+    }
+
+    /// Makes it; the answer's numbers.
+    fn make(&self, desk: &mut Desk) -> Vec<i64> {
+        let number = match *self {
+            Self::Box(id, min, max) => desk.change(|lists| lists.add_box(id, min, max)),
+            Self::Port(id, at, dirs) => desk.change(|lists| lists.add_port(id, at, dirs)),
+            Self::Net(id) => desk.change(|lists| lists.add_net(id)),
+            Self::End(id, at, mark) => desk.change(|lists| lists.add_end(id, at, mark)),
+            Self::RetireBox(id) => desk.change(|lists| lists.retire_box(id)),
+            Self::RetirePort(place) => desk.change(|lists| lists.retire_port(place as usize)),
+            Self::RetireNet(id) => desk.change(|lists| lists.retire_net(id)),
+            Self::RetireEnd(place) => desk.change(|lists| lists.retire_end(place as usize)),
+            Self::Undo => desk.undo(),
+            Self::Text(ref text) => return read(desk, text),
+        };
+        vec![number.into()]
+    }
+}
+
+/// Reads a text; the number, the line and the inner number.
+fn read(desk: &mut Desk, text: &[u8]) -> Vec<i64> {
+    let (lists, answer) = match page_text::read(text) {
+        Ok(lists) => (lists, vec![READ, 0, 0]),
+        Err(refusal) => {
+            let answer = vec![REFUSED, refusal.line as i64, refusal.inner.into()];
+            (Lists::default(), answer)
+        }
+    };
+    desk.replace(lists);
+    answer
+}
+
 /// A desk, and the list of the calls on it so far.
 #[derive(Default)]
 struct Recorder {
@@ -44,59 +94,29 @@ impl Recorder {
         self.list.extend_from_slice(text.as_bytes());
     }
 
+    /// Makes a call on the desk, and writes it down with its answer.
     fn call(&mut self, call: Call) {
-        match call {
-            Call::Box(id, min, max) => {
-                let fields = [id, min.x, min.y, max.x, max.y];
-                self.change("box", &fields, |lists| lists.add_box(id, min, max));
-            }
-            Call::Port(id, at, directions) => {
-                let fields = [id, at.x, at.y, directions];
-                self.change("port", &fields, |lists| lists.add_port(id, at, directions));
-            }
-            Call::Net(id) => self.change("net", &[id], |lists| lists.add_net(id)),
-            Call::End(id, at, mark) => {
-                let fields = [id, at.x, at.y, mark];
-                self.change("end", &fields, |lists| lists.add_end(id, at, mark));
-            }
-            Call::RetireBox(id) => self.change("rbox", &[id], |lists| lists.retire_box(id)),
-            Call::RetireNet(id) => self.change("rnet", &[id], |lists| lists.retire_net(id)),
-            Call::RetirePort(place) => {
-                self.change("rport", &[place], |lists| lists.retire_port(place as usize));
-            }
-            Call::RetireEnd(place) => {
-                self.change("rend", &[place], |lists| lists.retire_end(place as usize));
-            }
-            Call::Undo => {
-                let number = self.desk.undo();
-                self.push("undo", &[number.into()]);
-            }
-            Call::Text(text) => self.text(&text),
+        let answer = call.make(&mut self.desk);
+        self.answered(&call, answer);
+    }
+
+    fn answered(&mut self, call: &Call, answer: Vec<i64>) {
+        let (word, fields) = call.line();
+        self.push(word, &[fields, answer].concat());
+        if let Call::Text(text) = call {
+            self.list.extend_from_slice(text);
         }
+    }
+
+    /// Sets a word of the desk, past the book.
+    fn word(&mut self, at: usize, word: u32) {
+        self.push("word", &[at as i64, word.into()]);
     }
 
     fn calls(&mut self, calls: impl IntoIterator<Item = Call>) {
         for call in calls {
             self.call(call);
         }
-    }
-
-    fn change(&mut self, word: &str, fields: &[i64], change: impl FnOnce(&mut Lists) -> u32) {
-        let number = self.desk.change(change);
-        self.push(word, &[fields, &[number.into()]].concat());
-    }
-
-    fn text(&mut self, text: &[u8]) {
-        let (lists, answer) = match page_text::read(text) {
-            Ok(lists) => (lists, [READ, 0, 0]),
-            Err(refusal) => {
-                let answer = [REFUSED, refusal.line as i64, refusal.inner.into()];
-                (Lists::default(), answer)
-            }
-        };
-        self.desk.replace(lists);
-        self.push("text", &[&[text.len() as i64], &answer[..]].concat());
-        self.list.extend_from_slice(text);
     }
 
     fn push(&mut self, word: &str, fields: &[i64]) {
@@ -120,6 +140,7 @@ pub fn fixed_list() -> Vec<u8> {
     for seed in 0..300 {
         text_sequence(&mut recorder, &mut Random::new(seed));
     }
+    handed::sequences(&mut recorder);
     recorder.list
 }
 

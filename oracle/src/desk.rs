@@ -174,10 +174,10 @@ fn retire_by_place<T>(list: &mut Vec<T>, place: usize) -> u32 {
 }
 
 /// The lists and the copies that undo puts back, latest last.
-#[derive(Default)]
+#[derive(Default, Debug, Clone, PartialEq, Eq)]
 pub struct Desk {
     pub lists: Lists,
-    pile: Vec<Lists>,
+    pub pile: Vec<Lists>,
 }
 
 impl Desk {

@@ -3,6 +3,7 @@
 pub mod call_list;
 pub mod compare;
 pub mod desk;
+pub mod desk_words;
 pub mod digest;
 pub mod findings;
 pub mod layer;

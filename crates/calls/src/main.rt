@@ -1,4 +1,5 @@
-// Replays a fixed list of calls on a desk, given on standard input, and compares each number, each refused line and the surviving records.
+// Replays a fixed list of calls on a desk, given on standard input, and compares each number, each refused line and the surviving records. Between
+// calls the list may set words of the desk.
 ghost use Prim.Native.Nat.{_+_, _*_, _<_, _≤_};
 ghost use mathlib.Core.Path.{_≡_};
 ghost use lib.ListN.{length};
@@ -241,6 +242,16 @@ fn call(desk: &mut [u32], list: &[u8], at: usize, start: usize, f: [u64; 6]) -> 
     }
 }
 
+// Sets the word of the desk that a line says; false where the desk has none there.
+fn set_word(desk: &mut [u32], f: [u64; 6]) -> bool {
+    let at = wide(unsigned(f[0]));
+    if at < desk.len() {
+        desk[at] = unsigned(f[1]);
+        return true;
+    }
+    false
+}
+
 // What was counted: calls and lists compared, and those that were not as they should be.
 struct Tally {
     calls: u64,
@@ -268,6 +279,12 @@ fn line(desk: &mut [u32], other: &mut [u32], refusal: &mut [u32], list: &[u8], a
     }
     if vector_list::is_word(list, at, b"lists") {
         return survivors(desk, other, refusal, list, start, f);
+    }
+    if vector_list::is_word(list, at, b"word") {
+        return Done {
+            ok: set_word(desk, f),
+            next: start,
+        };
     }
     call(desk, list, at, start, f)
 }
