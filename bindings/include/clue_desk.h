@@ -45,7 +45,7 @@ extern "C" {
 #endif
 
 /* Sizes of slices, in entries. A larger slice is taken too. */
-#define CLUE_DESK_WORDS 80389         /* a desk; all zeros are an empty one */
+#define CLUE_DESK_WORDS 2661          /* a desk; all zeros are an empty one */
 #define CLUE_DESK_REFUSAL_WORDS 2     /* read_text: line and inner number */
 #define CLUE_DESK_LINE_NODES 4096     /* search: each of lx, ly, kinds, dirs */
 #define CLUE_DESK_NET_WORDS 5         /* layout: a net's row in nets */
@@ -64,6 +64,54 @@ extern "C" {
 #define CLUE_DESK_ID 65535
 #define CLUE_DESK_COORDINATE 4194304
 
+/* The words of a desk, for a caller that reads them. Only calls should write them: all but read_text test what is said here and
+ * get 2 if it does not hold.
+ *
+ *   from word               stands
+ *   0                       the number of undo entries, 0 to CLUE_DESK_COPIES
+ *   CLUE_DESK_BOXES_AT      the number of boxes; behind it their rows: id, least x, least y, greatest x, greatest y
+ *   CLUE_DESK_PORTS_AT      the number of ports; behind it their rows: box, x, y, directions
+ *   CLUE_DESK_NETS_AT       the number of nets; behind it their rows: id
+ *   CLUE_DESK_ENDS_AT       the number of ends; behind it their rows: net, x, y, mark
+ *   CLUE_DESK_ENTRIES_AT    the undo entries, the latest first
+ *
+ * Rows stand in kept order and have as many words as is said below. So field f of box i, both counted from 0, is
+ * desk[CLUE_DESK_BOXES_AT + 1 + i * CLUE_DESK_BOX_WORDS + f], and word w of undo entry k is
+ * desk[CLUE_DESK_ENTRIES_AT + k * CLUE_DESK_ENTRY_WORDS + w]. What stands behind the last row of a list and behind the last
+ * undo entry says nothing.
+ *
+ * A coordinate's word is the coordinate plus CLUE_DESK_ORIGIN; the coordinate is (int32_t)(word - CLUE_DESK_ORIGIN).
+ *
+ * An undo entry says what the undo does; what it does not use of its words says nothing.
+ *
+ *   word    holds
+ *   0       CLUE_DESK_UNDO_ADD and a kind added up: the last record of that kind goes; or
+ *           CLUE_DESK_UNDO_RETIRE and a kind: a record of that kind comes back
+ *   1       if it comes back: at which place, the number of records before it
+ *   2 ..    if it comes back: its row
+ *
+ * The first entry undoes the latest change. Each entry is about the lists as the undos of those before it leave them. */
+#define CLUE_DESK_BOXES_AT 1
+#define CLUE_DESK_PORTS_AT 322
+#define CLUE_DESK_NETS_AT 1347
+#define CLUE_DESK_ENDS_AT 1412
+#define CLUE_DESK_ENTRIES_AT 2437
+
+#define CLUE_DESK_BOX_WORDS 5
+#define CLUE_DESK_PORT_WORDS 4
+#define CLUE_DESK_NET_ID_WORDS 1
+#define CLUE_DESK_END_WORDS 4
+#define CLUE_DESK_ENTRY_WORDS 7
+
+#define CLUE_DESK_ORIGIN 2147483648   /* the word of coordinate 0 */
+
+#define CLUE_DESK_UNDO_ADD 0
+#define CLUE_DESK_UNDO_RETIRE 4
+#define CLUE_DESK_KIND_BOX 0
+#define CLUE_DESK_KIND_PORT 1
+#define CLUE_DESK_KIND_NET 2
+#define CLUE_DESK_KIND_END 3
+
 /* Bytes of stack that suffice for a call; measured, not proved: layout takes 519,816 of a thread's, search 378,344, the other calls
  * 70,040. */
 #define CLUE_DESK_STACK 655360
@@ -74,12 +122,11 @@ extern "C" {
 #define CLUE_DESK_NEG_Y 4
 #define CLUE_DESK_POS_Y 8
 
-/* Reads a page text: empties lists and pile, then adds the text's lines without copies. 0, or 16, or 1.
+/* Reads a page text: empties lists and pile, then adds the text's lines without undo entries. 0, or 16, or 1.
  * refusal: the 1-based line and the inner number (0 if the line is malformed) at 16, zeros at 0; zeros behind them. */
 uint32_t read_text(uint32_t *desk, size_t desk_len, const uint8_t *text, size_t text_len, uint32_t *refusal, size_t refusal_len);
 
-/* Additions. At 0 the record is put last in its list, after a copy of the lists was laid on the pile; a 33rd copy drops the
- * oldest. */
+/* Additions. At 0 the record is put last in its list, and an undo entry is laid on the pile; a 33rd entry drops the oldest. */
 
 /* A box from (x0, y0) to (x1, y1). 0, 1, 2, 3 or 6. */
 uint32_t add_box(uint32_t *desk, size_t desk_len, uint32_t id, int32_t x0, int32_t y0, int32_t x1, int32_t y1);
@@ -93,8 +140,8 @@ uint32_t add_net(uint32_t *desk, size_t desk_len, uint32_t id);
 /* An end of a net; mark 1 if a port is there, else 0. 0, 1, 2, 4 or 6. */
 uint32_t add_end(uint32_t *desk, size_t desk_len, uint32_t net, int32_t x, int32_t y, uint32_t mark);
 
-/* Retirements. At 0 the record is taken out of its list, after a copy of the lists was laid on the pile. Boxes and nets retire
- * by id, ports and ends by the number of records before them in their list. */
+/* Retirements. At 0 the record is taken out of its list, and an undo entry is laid on the pile. Boxes and nets retire by id,
+ * ports and ends by the number of records before them in their list. */
 
 /* 0, 1, 2, 4 or 5. */
 uint32_t retire_box(uint32_t *desk, size_t desk_len, uint32_t id);
@@ -108,7 +155,7 @@ uint32_t retire_net(uint32_t *desk, size_t desk_len, uint32_t id);
 /* 0, 1, 2 or 4. */
 uint32_t retire_end(uint32_t *desk, size_t desk_len, uint32_t at);
 
-/* Puts the top copy back and takes it off the pile; there is no redo. 0, 1, 2 or 7. */
+/* Undoes the latest change of the pile and takes its entry off; there is no redo. 0, 1, 2 or 7. */
 uint32_t undo(uint32_t *desk, size_t desk_len);
 
 /* The line from (x, y) to one of the ends (ex[i], ey[i]), on the graph of the desk's page, pruned (prune 1) or not (0).

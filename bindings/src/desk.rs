@@ -2,10 +2,11 @@
 
 use crate::refusal::{answer, BadLine, Refusal};
 use crate::{raw, Place};
-use crate::{BOXES, DESK_WORDS, ENDS, NETS, PORTS, REFUSAL_WORDS};
+use crate::{BOXES_AT, BOX_WORDS, ENDS_AT, END_WORDS, NETS_AT, NET_ID_WORDS, PORTS_AT, PORT_WORDS};
+use crate::{DESK_WORDS, ORIGIN, REFUSAL_WORDS};
 use std::fmt;
 
-/// A clue desk: boxes, ports, nets and ends, and the copies that undo puts back.
+/// A clue desk: boxes, ports, nets and ends, and the undo entries of the last 32 changes.
 ///
 /// A refused call changes nothing, but for a refused text, which leaves the desk empty.
 #[derive(Clone)]
@@ -51,7 +52,26 @@ impl Desk {
         }
     }
 
-    /// All words, as the calls are lent them.
+    /// A desk again of words that were kept, undos and all. Words behind [`DESK_WORDS`] are left.
+    ///
+    /// # Errors
+    ///
+    /// `TooSmall` if they are too few, `OutOfRange` if they are no desk.
+    pub fn from_words(words: &[u32]) -> Result<Self, Refusal> {
+        let words = words.get(..DESK_WORDS).ok_or(Refusal::TooSmall)?;
+        let mut desk = Self {
+            words: words.into(),
+        };
+        // Every call tests the desk first; no port is at this place, so this one changes nothing.
+        match desk.retire_port(u32::MAX) {
+            Err(Refusal::Unknown) => Ok(desk),
+            Err(refusal) => Err(refusal),
+            Ok(()) => unreachable!("no list is that long"),
+        }
+    }
+
+    /// All words, as the calls are lent them; the header `clue_desk.h` says how the records lie in
+    /// them.
     pub fn words(&self) -> &[u32] {
         &self.words
     }
@@ -62,7 +82,7 @@ impl Desk {
         answer(call(words.as_mut_ptr(), words.len()))
     }
 
-    /// Reads a page text: empties the desk, then adds the lines without copies.
+    /// Reads a page text: empties the desk, then adds the lines without undo entries.
     ///
     /// # Errors
     ///
@@ -190,7 +210,7 @@ impl Desk {
 
     /// The boxes, in kept order.
     pub fn boxes(&self) -> impl ExactSizeIterator<Item = BoxRecord> + '_ {
-        self.rows::<5>(BOX_AREA).map(|row| BoxRecord {
+        self.rows::<BOX_WORDS>(BOXES_AT).map(|row| BoxRecord {
             id: row[0],
             min: place(row[1], row[2]),
             max: place(row[3], row[4]),
@@ -199,7 +219,7 @@ impl Desk {
 
     /// The ports, in kept order.
     pub fn ports(&self) -> impl ExactSizeIterator<Item = PortRecord> + '_ {
-        self.rows::<4>(PORT_AREA).map(|row| PortRecord {
+        self.rows::<PORT_WORDS>(PORTS_AT).map(|row| PortRecord {
             box_id: row[0],
             at: place(row[1], row[2]),
             directions: row[3],
@@ -208,12 +228,12 @@ impl Desk {
 
     /// The nets' ids, in kept order.
     pub fn nets(&self) -> impl ExactSizeIterator<Item = u32> + '_ {
-        self.rows::<1>(NET_AREA).map(|row| row[0])
+        self.rows::<NET_ID_WORDS>(NETS_AT).map(|row| row[0])
     }
 
     /// The ends, in kept order.
     pub fn ends(&self) -> impl ExactSizeIterator<Item = EndRecord> + '_ {
-        self.rows::<4>(END_AREA).map(|row| EndRecord {
+        self.rows::<END_WORDS>(ENDS_AT).map(|row| EndRecord {
             net_id: row[0],
             at: place(row[1], row[2]),
             mark: row[3],
@@ -227,18 +247,9 @@ impl Desk {
     }
 }
 
-// The areas of the lists now stand behind the pile's depth.
-const BOX_AREA: usize = 1;
-const PORT_AREA: usize = BOX_AREA + 1 + 5 * BOXES;
-const NET_AREA: usize = PORT_AREA + 1 + 4 * PORTS;
-const END_AREA: usize = NET_AREA + 1 + NETS;
-
-// The lists now and 32 copies of them.
-const _: () = assert!(1 + 33 * (END_AREA - BOX_AREA + 1 + 4 * ENDS) == DESK_WORDS);
-
-/// A place on the desk is counted from -2^31.
+/// The place of two words.
 fn place(x: u32, y: u32) -> Place {
-    let step = |word: u32| (word ^ 0x8000_0000) as i32;
+    let step = |word: u32| word.wrapping_sub(ORIGIN) as i32;
     Place::new(step(x), step(y))
 }
 
@@ -268,6 +279,6 @@ impl fmt::Display for Desk {
 
 impl fmt::Debug for Desk {
     fn fmt(&self, f: &mut fmt::Formatter<'_>) -> fmt::Result {
-        write!(f, "Desk({} copies)\n{self}", self.copies())
+        write!(f, "Desk({} undos)\n{self}", self.copies())
     }
 }

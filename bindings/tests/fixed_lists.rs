@@ -15,8 +15,9 @@ fn list(name: &str) -> Vec<u8> {
 #[test]
 fn calls() {
     let done = replay::Calls {
-        calls: 20_135,
-        lists: 1_030,
+        calls: 25_121,
+        words: 2_941,
+        lists: 1_543,
     };
     assert_eq!(replay::calls(&list("calls/stdin")), done);
 }

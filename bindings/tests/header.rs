@@ -46,6 +46,13 @@ fn a_c_program_makes_every_call() {
         search 0\n0 0 S 2\n2560 0 N 8\n2560 5120 E 0\n\
         search 9\n\
         0 0 3 0 5 0 0 5 4 0 0 1\n\
+        at 0 comes back box 7 25600 0 30720 5120\n\
+        at 0 comes back port 7 25600 2560 1\n\
+        last end goes\nlast port goes\nlast box goes\n\
+        undo 0\nundo 0\n\
+        box 7 25600 0 30720 5120\nport 7 25600 2560 1\nnet 1\n\
+        end 1 0 0 0\nend 1 2560 5120 0\nend 1 25600 2560 1\n\
+        last end goes\nlast port goes\nlast box goes\n\
         read 16 at line 2 with 4\n";
     assert_eq!(String::from_utf8_lossy(&output.stdout), expected);
 }
@@ -75,6 +82,23 @@ fn the_sizes_are_the_wrappers() {
         ("NETS", clue_desk::NETS as i64),
         ("ENDS", clue_desk::ENDS as i64),
         ("COPIES", clue_desk::COPIES as i64),
+        ("BOXES_AT", clue_desk::BOXES_AT as i64),
+        ("PORTS_AT", clue_desk::PORTS_AT as i64),
+        ("NETS_AT", clue_desk::NETS_AT as i64),
+        ("ENDS_AT", clue_desk::ENDS_AT as i64),
+        ("ENTRIES_AT", clue_desk::ENTRIES_AT as i64),
+        ("BOX_WORDS", clue_desk::BOX_WORDS as i64),
+        ("PORT_WORDS", clue_desk::PORT_WORDS as i64),
+        ("NET_ID_WORDS", clue_desk::NET_ID_WORDS as i64),
+        ("END_WORDS", clue_desk::END_WORDS as i64),
+        ("ENTRY_WORDS", clue_desk::ENTRY_WORDS as i64),
+        ("ORIGIN", clue_desk::ORIGIN.into()),
+        ("UNDO_ADD", clue_desk::UNDO_ADD.into()),
+        ("UNDO_RETIRE", clue_desk::UNDO_RETIRE.into()),
+        ("KIND_BOX", clue_desk::KIND_BOX.into()),
+        ("KIND_PORT", clue_desk::KIND_PORT.into()),
+        ("KIND_NET", clue_desk::KIND_NET.into()),
+        ("KIND_END", clue_desk::KIND_END.into()),
         ("SEARCH_ENDS", clue_desk::SEARCH_ENDS as i64),
         ("ID", clue_desk::GREATEST_ID.into()),
         ("COORDINATE", clue_desk::GREATEST_COORDINATE.into()),

@@ -3,9 +3,10 @@
 mod memory;
 
 use clue_desk::{Desk, Place, DESK_WORDS};
+use clue_desk::{BOXES_AT, ENDS_AT, ENTRIES_AT, NETS_AT, PORTS_AT};
 use memory::{is_desk, Call, Memory, Random, Sizes};
 
-/// A desk with a few records and copies.
+/// A desk with a few records and undo entries.
 fn used_desk() -> Desk {
     let mut desk = Desk::new();
     let text = b"box\t1\t0\t0\t5120\t5120\nport\t1\t0\t2560\t1\nnet\t1\nend\t1\t0\t2560\t1\nend\t1\t-5120\t9000\t0\n";
@@ -126,12 +127,12 @@ fn a_changed_word_is_seen_or_harmless() {
     let random = &mut Random::new(4);
     let (mut bad, mut good) = (0, 0);
     let desk = used_desk();
-    let block = (DESK_WORDS - 1) / 33;
+    let lists = [0, BOXES_AT, PORTS_AT, NETS_AT, ENDS_AT];
+    let parts = [&lists[..], &[ENTRIES_AT, ENTRIES_AT + 22]].concat();
     for _ in 0..3_000 {
         let call = calls().swap_remove(random.below(calls().len()));
         let mut memory = Memory::arbitrary(random, &desk);
-        let area = random.below(5);
-        let at = [0, 1, 322, 1_347, 1_412][area] + random.below(22) + block * random.below(5);
+        let at = parts[random.below(parts.len())] + random.below(22);
         memory.desk[at] = match random.below(4) {
             0 => random.word() % 9,
             1 => memory.desk[at].wrapping_add(1),
@@ -183,7 +184,7 @@ fn reading_takes_any_words() {
             assert_eq!(call.make(&mut memory, &sizes), number);
             assert_eq!(memory.refusal[..2], told);
             assert_eq!(memory.refusal[2..], before.refusal[2..]);
-            assert_eq!(memory.desk[0], 0, "no copies");
+            assert_eq!(memory.desk[0], 0, "no undo entries");
             assert_eq!(memory::records(&memory.desk), expected);
             assert!(is_desk(&memory.desk));
             assert_eq!(memory.desk[DESK_WORDS..], before.desk[DESK_WORDS..]);

@@ -3,7 +3,10 @@
 use clue_desk::{
     BadLine, Desk, Direction, JunctionKind, NodeKind, Place, Refusal, Router, VertexKind,
 };
-use clue_desk::{BOXES, COPIES, ENDS, NEG_X, NETS, PORTS, POS_X, STACK, VERTICES};
+use clue_desk::{BOXES, COPIES, DESK_WORDS, ENDS, NEG_X, NETS, PORTS, POS_X, STACK, VERTICES};
+use clue_desk::{BOXES_AT, BOX_WORDS, ENDS_AT, END_WORDS, NETS_AT, NET_ID_WORDS};
+use clue_desk::{ENTRIES_AT, ENTRY_WORDS, ORIGIN, PORTS_AT, PORT_WORDS, UNDO_ADD, UNDO_RETIRE};
+use clue_desk::{GREATEST_COORDINATE, KIND_BOX, KIND_END, KIND_NET, KIND_PORT};
 use std::io::Write;
 use std::process::{Command, Stdio};
 use std::thread;
@@ -203,6 +206,97 @@ fn changes_are_made_and_undone() {
     );
 }
 
+/// The words of a place.
+fn steps(at: Place) -> [u32; 2] {
+    [at.x, at.y].map(|step| (i64::from(step) + i64::from(ORIGIN)) as u32)
+}
+
+/// A list of the desk, read out of the words by its constants.
+fn rows(desk: &Desk, at: usize, width: usize) -> Vec<&[u32]> {
+    let (count, rows) = (desk.words()[at] as usize, &desk.words()[at + 1..]);
+    rows[..count * width].chunks(width).collect()
+}
+
+/// The first words of an undo entry, read in the same way; the latest is 0.
+fn entry(desk: &Desk, number: usize, words: usize) -> &[u32] {
+    let at = ENTRIES_AT + number * ENTRY_WORDS;
+    &desk.words()[at..][..words]
+}
+
+#[test]
+fn the_words_hold_the_records() {
+    let (min, max) = (-GREATEST_COORDINATE, GREATEST_COORDINATE);
+    let (least, greatest) = (Place::new(min, -1), Place::new(0, max));
+    let mut desk = Desk::new();
+    for id in [7, 65_535] {
+        desk.add_box(id, least, greatest).expect("it goes");
+        desk.add_port(id, greatest, id % 16).expect("it goes");
+        desk.add_net(id).expect("it goes");
+        desk.add_end(id, least, 1).expect("it goes");
+    }
+    let ([x0, y0], [x1, y1]) = (steps(least), steps(greatest));
+    assert_eq!((x0, y0), (ORIGIN - max as u32, ORIGIN - 1));
+    let boxes = [[7, x0, y0, x1, y1], [65_535, x0, y0, x1, y1]];
+    let ports = [[7, x1, y1, 7], [65_535, x1, y1, 15]];
+    let ends = [[7, x0, y0, 1], [65_535, x0, y0, 1]];
+    assert_eq!(rows(&desk, BOXES_AT, BOX_WORDS), boxes);
+    assert_eq!(rows(&desk, PORTS_AT, PORT_WORDS), ports);
+    assert_eq!(rows(&desk, NETS_AT, NET_ID_WORDS), [[7], [65_535]]);
+    assert_eq!(rows(&desk, ENDS_AT, END_WORDS), ends);
+    assert_eq!(desk.words()[0], 8);
+    for (number, kind) in [KIND_END, KIND_NET, KIND_PORT, KIND_BOX].iter().enumerate() {
+        assert_eq!(entry(&desk, number, 1), [UNDO_ADD + kind]);
+        assert_eq!(entry(&desk, number + 4, 1), [UNDO_ADD + kind]);
+    }
+    desk.retire_port(1).expect("it goes");
+    let port = [UNDO_RETIRE + KIND_PORT, 1, 65_535, x1, y1, 15];
+    assert_eq!(entry(&desk, 0, port.len()), port);
+}
+
+#[test]
+fn the_latest_undo_entry_is_in_the_words() {
+    let mut desk = changed();
+    desk.retire_port(0).expect("it goes");
+    desk.retire_box(1).expect("it goes");
+    let ([x0, y0], [x1, y1]) = (steps(at(0, 0)), steps(at(20, 20)));
+    let [left, middle] = steps(at(0, 10));
+    let [right, _] = steps(at(20, 10));
+    let retired: [&[u32]; 6] = [
+        &[UNDO_RETIRE + KIND_BOX, 0, 1, x0, y0, x1, y1],
+        &[UNDO_RETIRE + KIND_PORT, 0, 1, right, middle, NEG_X + POS_X],
+        &[UNDO_RETIRE + KIND_NET, 0, 7],
+        &[UNDO_RETIRE + KIND_END, 0, 7, left, middle, 1],
+        &[UNDO_RETIRE + KIND_PORT, 0, 1, left, middle, NEG_X],
+        &[UNDO_ADD + KIND_END],
+    ];
+    for (number, words) in retired.into_iter().enumerate() {
+        assert_eq!(desk.words()[0] as usize, desk.copies());
+        assert_eq!(desk.copies(), 10 - number);
+        assert_eq!(entry(&desk, 0, words.len()), words);
+        desk.undo().expect("there is an entry");
+    }
+}
+
+#[test]
+fn kept_words_are_a_desk_again() {
+    let mut desk = changed();
+    let mut kept = desk.words().to_vec();
+    let mut again = Desk::from_words(&kept).expect("they are a desk");
+    while again.undo().is_ok() {
+        desk.undo().expect("both have an entry");
+        assert_eq!(again.words(), desk.words());
+    }
+    assert_eq!(desk.copies(), 0);
+
+    let refused = |words: &[u32]| Desk::from_words(words).err();
+    assert_eq!(refused(&kept[..DESK_WORDS - 1]), Some(Refusal::TooSmall));
+    kept.push(5);
+    assert_eq!(refused(&kept), None);
+    kept[ENTRIES_AT] = UNDO_RETIRE + KIND_END + 1;
+    assert_eq!(refused(&kept), Some(Refusal::OutOfRange));
+    assert_eq!(refused(&[0; DESK_WORDS]), None);
+}
+
 #[test]
 fn changes_are_refused() {
     let mut desk = changed();
@@ -246,7 +340,7 @@ fn lists_and_pile_have_their_limits() {
     }
     assert_eq!(desk.add_end(1, at(0, 0), 0), Err(Refusal::Full));
     for _ in 0..COPIES {
-        desk.undo().expect("there is a copy");
+        desk.undo().expect("there is an entry");
     }
     assert_eq!(desk.undo(), Err(Refusal::NothingToUndo));
     assert_eq!(desk.ends().len(), ENDS - COPIES);
@@ -377,7 +471,7 @@ fn calls_keep_to_the_stack() {
     });
     run(128 * 1024, || {
         let mut desk = full_page();
-        desk.undo().expect("there is a copy");
+        desk.undo().expect("there is an entry");
         desk.read_text(b"net\t1\n").expect("it is good");
     });
 }

@@ -365,8 +365,33 @@ fn are_lists(block: &[u32]) -> bool {
         && are_points(ends, nets, 1)
 }
 
-/// Whether words are a desk: the lists now and each copy keep 01's limits.
+/// Undoes a change, if the entry applies: the last record of a kind goes (0 to 3), or a record comes back at its place (4 to 7).
+fn take_entry(block: &mut [u32], entry: &[u32]) -> bool {
+    let (area, width, most) = AREAS[entry[0] as usize % 4];
+    let count = block[area] as usize;
+    let place = entry[1] as usize;
+    match entry[0] / 4 {
+        0 if count > 0 => block[area] -= 1,
+        1 if place <= count && count < most => {
+            let at = area + 1 + place * width;
+            block.copy_within(at..area + 1 + count * width, at + width);
+            block[at..at + width].copy_from_slice(&entry[2..2 + width]);
+            block[area] += 1;
+        }
+        _ => return false,
+    }
+    true
+}
+
+/// Whether words are a desk: the lists now keep 01's limits, and each undo entry, taken in turn, applies and leaves lists that
+/// keep them.
 pub fn is_desk(words: &[u32]) -> bool {
     let depth = words[0] as usize;
-    depth <= 32 && words[1..].chunks(BLOCK).take(depth + 1).all(are_lists)
+    let mut block = words[1..=BLOCK].to_vec();
+    depth <= 32
+        && are_lists(&block)
+        && words[1 + BLOCK..]
+            .chunks(7)
+            .take(depth)
+            .all(|entry| take_entry(&mut block, entry) && are_lists(&block))
 }

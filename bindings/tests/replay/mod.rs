@@ -3,7 +3,7 @@
 
 #![allow(dead_code)]
 
-use clue_desk::{BadLine, Desk, Place, Refusal, Router};
+use clue_desk::{raw, BadLine, Desk, Place, Refusal, Router};
 use std::fmt::Write;
 
 /// A list that is read from the front: header lines, and bytes behind some of them.
@@ -52,6 +52,7 @@ fn number(answer: Result<(), Refusal>) -> u32 {
 #[derive(Debug, Default, PartialEq, Eq)]
 pub struct Calls {
     pub calls: usize,
+    pub words: usize,
     pub lists: usize,
 }
 
@@ -59,31 +60,90 @@ pub struct Calls {
 pub fn calls(list: &[u8]) -> Calls {
     let mut list = List { rest: list };
     let mut desk = Desk::new();
+    // Words that the list makes no desk.
+    let mut no_desk = None;
     let mut done = Calls::default();
     while let Some(fields) = list.header() {
         match fields[0] {
-            "new" => desk = Desk::new(),
+            "new" => (desk, no_desk) = (Desk::new(), None),
             "lists" => {
                 let records = list.bytes(field(&fields, 1));
                 assert_eq!(desk.to_string().as_bytes(), records, "{fields:?}");
                 done.lists += 1;
             }
+            "word" => {
+                let mut words = no_desk.unwrap_or_else(|| desk.words().to_vec());
+                words[field::<usize>(&fields, 1)] = field(&fields, 2);
+                no_desk = handed(&mut desk, words);
+                done.words += 1;
+            }
             "text" => {
+                no_desk = None;
                 read(&mut desk, list.bytes(field(&fields, 1)), &fields);
                 done.calls += 1;
             }
             _ => {
-                let before = desk.clone();
-                let answer = call(&mut desk, &fields);
-                let expected: u32 = field(&fields, fields.len() - 1);
-                assert_eq!(number(answer), expected, "{fields:?}");
-                let changed = desk.words() != before.words();
-                assert!(expected == 0 || !changed, "{fields:?} changed it");
+                match &mut no_desk {
+                    None => change(&mut desk, &fields),
+                    Some(words) => refused_change(words, &fields),
+                }
                 done.calls += 1;
             }
         }
     }
     done
+}
+
+/// Takes words as the desk, or hands them back if they are none.
+fn handed(desk: &mut Desk, words: Vec<u32>) -> Option<Vec<u32>> {
+    match Desk::from_words(&words) {
+        Ok(handed) => {
+            *desk = handed;
+            None
+        }
+        Err(refusal) => {
+            assert_eq!(refusal, Refusal::OutOfRange);
+            Some(words)
+        }
+    }
+}
+
+fn change(desk: &mut Desk, fields: &[&str]) {
+    let before = desk.clone();
+    let answer = call(desk, fields);
+    let expected: u32 = field(fields, fields.len() - 1);
+    assert_eq!(number(answer), expected, "{fields:?}");
+    let changed = desk.words() != before.words();
+    assert!(expected == 0 || !changed, "{fields:?} changed it");
+}
+
+/// A call on words that are no desk.
+fn refused_change(words: &mut [u32], fields: &[&str]) {
+    let before = words.to_vec();
+    let number = raw_call(words, fields);
+    assert_eq!(number, field::<u32>(fields, fields.len() - 1), "{fields:?}");
+    assert_eq!(words, before, "{fields:?} changed it");
+}
+
+fn raw_call(words: &mut [u32], fields: &[&str]) -> u32 {
+    let (desk, size) = (words.as_mut_ptr(), words.len());
+    let id = || field(fields, 1);
+    let step = |at| field(fields, at);
+    // SAFETY: the pointer and the length are those of a slice.
+    unsafe {
+        match fields[0] {
+            "box" => raw::add_box(desk, size, id(), step(2), step(3), step(4), step(5)),
+            "port" => raw::add_port(desk, size, id(), step(2), step(3), field(fields, 4)),
+            "net" => raw::add_net(desk, size, id()),
+            "end" => raw::add_end(desk, size, id(), step(2), step(3), field(fields, 4)),
+            "rbox" => raw::retire_box(desk, size, id()),
+            "rport" => raw::retire_port(desk, size, id()),
+            "rnet" => raw::retire_net(desk, size, id()),
+            "rend" => raw::retire_end(desk, size, id()),
+            "undo" => raw::undo(desk, size),
+            word => panic!("no call is named {word}"),
+        }
+    }
 }
 
 fn call(desk: &mut Desk, fields: &[&str]) -> Result<(), Refusal> {
@@ -108,7 +168,7 @@ fn read(desk: &mut Desk, text: &[u8], fields: &[&str]) {
     };
     let expected = [2, 3, 4].map(|at| field::<u32>(fields, at));
     assert_eq!([number, line, inner], expected, "{fields:?}");
-    assert_eq!(desk.copies(), 0, "{fields:?}: reading leaves no copies");
+    assert_eq!(desk.copies(), 0, "{fields:?}: reading leaves no undo");
     assert!(
         number == 0 || desk.to_string().is_empty(),
         "{fields:?} is refused"
