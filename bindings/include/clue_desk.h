@@ -113,7 +113,7 @@ extern "C" {
 #define CLUE_DESK_KIND_END 3
 
 /* Bytes of stack that suffice for a call; measured, not proved: layout takes 519,816 of a thread's, search 378,344, the other calls
- * 70,040. */
+ * 14,424. */
 #define CLUE_DESK_STACK 655360
 
 /* A port's directions are a sum of these; the direction onward of a line's node is one of them. */

@@ -91,5 +91,5 @@ pub const NEG_Y: u32 = 4;
 pub const POS_Y: u32 = 8;
 
 /// Bytes of stack that suffice for a call; measured, not proved: a layout takes 519,816 of a
-/// thread's, a search 378,344, the other calls 70,040.
+/// thread's, a search 378,344, the other calls 14,424.
 pub const STACK: usize = 640 * 1024;

@@ -469,7 +469,7 @@ fn calls_keep_to_the_stack() {
             search.expect("there is a line");
         }
     });
-    run(128 * 1024, || {
+    run(32 * 1024, || {
         let mut desk = full_page();
         desk.undo().expect("there is an entry");
         desk.read_text(b"net\t1\n").expect("it is good");

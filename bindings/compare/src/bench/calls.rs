@@ -1,53 +1,74 @@
-//! Calls on an empty and on a full desk; the Rust has none.
+//! Calls on an empty desk and on full ones; the Rust has none.
 
 use crate::timing::{alone, microseconds};
 use crate::{desk_of, pages};
 use clue_desk::{Desk, Place, Refusal, Router, COPIES};
+use oracle::desk::Lists;
 use std::cell::RefCell;
 use std::hint::black_box;
 
 struct Desks {
     empty: Desk,
     full: Desk,
+    worst: Desk,
     samples: usize,
 }
 
 impl Desks {
-    /// A line of the table: the call on both desks.
+    fn time(&self, desk: &Desk, call: impl Fn(&mut Desk)) -> String {
+        let mut desk = desk.clone();
+        microseconds(alone(self.samples, || call(&mut desk)))
+    }
+
+    /// A line of a table: the call on the empty and on the full desk.
     fn line(&self, name: &str, call: impl Fn(&mut Desk)) {
-        let time = |desk: &Desk| {
-            let mut desk = desk.clone();
-            microseconds(alone(self.samples, || call(&mut desk)))
-        };
-        println!("| {name} | {} | {} |", time(&self.empty), time(&self.full));
+        let [empty, full] = [&self.empty, &self.full].map(|desk| self.time(desk, &call));
+        println!("| {name} | {empty} | {full} |");
+    }
+
+    /// The same, and on the worst desk.
+    fn change_line(&self, name: &str, call: impl Fn(&mut Desk)) {
+        let desks = [&self.empty, &self.full, &self.worst];
+        let [empty, full, worst] = desks.map(|desk| self.time(desk, &call));
+        println!("| {name} | {empty} | {full} | {worst} |");
     }
 }
 
 pub fn print(samples: usize) {
-    println!(
-        "Calls on a desk, in µs a call. Full: all lists at their limits and 32 copies like them.\n"
-    );
-    println!("| call | empty desk | full desk |");
-    println!("|---|---|---|");
     let desks = Desks {
         empty: Desk::new(),
         full: full_desk(),
+        worst: worst_desk(),
         samples: 10 * samples,
     };
+    println!("Changes of a desk, in µs. Full: all lists at their limits and 32 undo entries. Worst: the same, every port and end belongs to the last box and net, and half of the entries bring an end back before all others.\n");
+    println!("| call | empty desk | full desk | worst desk |");
+    println!("|---|---|---|---|");
     print_changes(&desks);
-    print_readings(&desks);
+    println!("\nOther calls on a desk, in µs a call.\n");
+    println!("| call | empty desk | full desk |");
+    println!("|---|---|---|");
+    print_reading(&desks);
+    print_drawing(&desks);
 }
 
+/// A refused addition tests the desk and no more.
 fn print_changes(desks: &Desks) {
-    desks.line("a refused addition (`add_net` of id 0)", |desk| {
+    desks.change_line("a refused addition (`add_net` of id 0)", |desk| {
         assert_eq!(desk.add_net(0), Err(Refusal::OutOfRange));
     });
-    desks.line("`add_net` or `retire_end`, then `undo` (both)", |desk| {
-        let added = desk.add_net(900);
-        let changed = added.or_else(|_| desk.retire_end(255));
-        changed.expect("one of them goes");
-        desk.undo().expect("there is a copy");
+    desks.change_line("`add_net` or `retire_end`, then `undo` (both)", |desk| {
+        let ends = desk.ends().len();
+        let changed = match ends {
+            0 => desk.add_net(900),
+            _ => desk.retire_end(ends as u32 - 1),
+        };
+        changed.expect("it goes");
+        desk.undo().expect("there is an entry");
     });
+}
+
+fn print_reading(desks: &Desks) {
     let text = desks.full.to_string();
     desks.line("`read_text` of its own text (empty, 640 lines)", |desk| {
         let text = if desk.nets().len() == 0 { "" } else { &text };
@@ -55,8 +76,8 @@ fn print_changes(desks: &Desks) {
     });
 }
 
-/// Calls that only read the desk.
-fn print_readings(desks: &Desks) {
+/// Calls that leave the desk as it is.
+fn print_drawing(desks: &Desks) {
     let router = RefCell::new(Router::new());
     desks.line("`search` between two of its ends, pruned", |desk| {
         let mut ends = desk.ends().map(|end| end.at);
@@ -69,12 +90,31 @@ fn print_readings(desks: &Desks) {
     });
 }
 
-/// Every list full, and 32 copies that are full but for one end at most.
+/// Every list full; the undo entries take the last end out and bring it back.
 fn full_desk() -> Desk {
-    let mut desk = desk_of(&pages::full());
+    with_entries(&pages::full(), 255)
+}
+
+/// Every owner is looked for through the whole list, and an end that comes back moves all others.
+fn worst_desk() -> Desk {
+    let mut lists = pages::full();
+    let (last_box, last_net) = (&lists.boxes[63], lists.nets[63]);
+    for port in &mut lists.ports {
+        port.box_id = last_box.id;
+    }
+    for end in &mut lists.ends {
+        end.net_id = last_net;
+    }
+    with_entries(&lists, 0)
+}
+
+/// A full desk whose undo entries take the last end out and bring one back at a place, by turns.
+fn with_entries(lists: &Lists, place: u32) -> Desk {
+    let mut desk = desk_of(lists);
+    let net = *lists.nets.last().expect("it is full") as u32;
     for _ in 0..COPIES {
-        desk.retire_end(255).expect("it is there");
-        desk.add_end(64, Place::new(0, 0), 0)
+        desk.retire_end(place).expect("it is there");
+        desk.add_end(net, Place::new(0, 0), 0)
             .expect("there is room");
     }
     assert_eq!(desk.copies(), COPIES);
