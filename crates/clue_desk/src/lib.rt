@@ -4,84 +4,80 @@ ghost use Rattle.desk.specs.declared.Kind.{Kind};
 ghost use Rattle.desk.specs.Calls.{boxRecord, pointRecord, netRecord};
 ghost use Rattle.desk.specs.Calls.Call.{add, retire, undo as undo-call};
 ghost use Rattle.clue_desk.specs.Calls.{number, words, outputs};
-ghost use Rattle.fixed.specs.Up.{up};
-ghost use Rattle.desk_search.specs.Query.{query};
-ghost use Rattle.desk_search.specs.Search.{outputs as line-of};
-ghost use Rattle.page_layout.specs.Drawing.{drawing};
-ghost use Rattle.desk_layout.specs.Layout.{choice};
-ghost use Rattle.clue_desk.specs.Calls.Outputs.{refused, lined, drawn};
-ghost use Rattle.clue_desk.specs.Calls.Call.{edit, read, search as search-call, layout as layout-call};
+ghost use Rattle.clue_desk.specs.Calls.Call.{edit, read};
+ghost use Rattle.clue_desk.specs.Calls.Outputs.{refused};
+ghost use Rattle.clue_desk.specs.Views.{old, new, searchCall, lineLeft, layoutCall, drawingLeft};
 
 // Reads a page text: 0, or 16 with the 1-based line and the inner number, or 1 if the desk or the refusal's words are lent too small.
 #[no_mangle]
 pub extern "C" fn read_text(desk: &mut [u32], text: &[u8], refusal: &mut [u32]) -> u32
-    ensures { λ r. ⌜ r ≡ number (read (now (text .entry)) (now (refusal .entry))) (now (desk .entry)) ⌝ }
-    ensures { λ _. ⌜ now (desk .exit) ≡ words (read (now (text .entry)) (now (refusal .entry))) (now (desk .entry)) ⌝ }
-    ensures { λ _. ⌜ refused (now (refusal .exit)) ≡ outputs (read (now (text .entry)) (now (refusal .entry))) (now (desk .entry)) ⌝ }
+    ensures { λ r. ⌜ r ≡ number (read (old text) (old refusal)) (old desk) ⌝ }
+    ensures { λ _. ⌜ new desk ≡ words (read (old text) (old refusal)) (old desk) ⌝ }
+    ensures { λ _. ⌜ refused (new refusal) ≡ outputs (read (old text) (old refusal)) (old desk) ⌝ }
 {
     page_text::read_text(desk, text, refusal)
 }
 
 #[no_mangle]
 pub extern "C" fn add_box(desk: &mut [u32], id: u32, x0: i32, y0: i32, x1: i32, y1: i32) -> u32
-    ensures { λ r. ⌜ r ≡ number (edit (add Kind.Box (boxRecord id x0 y0 x1 y1))) (now (desk .entry)) ⌝ }
-    ensures { λ _. ⌜ now (desk .exit) ≡ words (edit (add Kind.Box (boxRecord id x0 y0 x1 y1))) (now (desk .entry)) ⌝ }
+    ensures { λ r. ⌜ r ≡ number (edit (add Kind.Box (boxRecord id x0 y0 x1 y1))) (old desk) ⌝ }
+    ensures { λ _. ⌜ new desk ≡ words (edit (add Kind.Box (boxRecord id x0 y0 x1 y1))) (old desk) ⌝ }
 {
     desk::add_box(desk, id, x0, y0, x1, y1)
 }
 
 #[no_mangle]
 pub extern "C" fn add_port(desk: &mut [u32], id: u32, x: i32, y: i32, directions: u32) -> u32
-    ensures { λ r. ⌜ r ≡ number (edit (add Kind.Port (pointRecord id x y directions))) (now (desk .entry)) ⌝ }
-    ensures { λ _. ⌜ now (desk .exit) ≡ words (edit (add Kind.Port (pointRecord id x y directions))) (now (desk .entry)) ⌝ }
+    ensures { λ r. ⌜ r ≡ number (edit (add Kind.Port (pointRecord id x y directions))) (old desk) ⌝ }
+    ensures { λ _. ⌜ new desk ≡ words (edit (add Kind.Port (pointRecord id x y directions))) (old desk) ⌝ }
 {
     desk::add_port(desk, id, x, y, directions)
 }
 
 #[no_mangle]
 pub extern "C" fn add_net(desk: &mut [u32], id: u32) -> u32
-    ensures { λ r. ⌜ r ≡ number (edit (add Kind.Net (netRecord id))) (now (desk .entry)) ⌝ }
-    ensures { λ _. ⌜ now (desk .exit) ≡ words (edit (add Kind.Net (netRecord id))) (now (desk .entry)) ⌝ }
+    ensures { λ r. ⌜ r ≡ number (edit (add Kind.Net (netRecord id))) (old desk) ⌝ }
+    ensures { λ _. ⌜ new desk ≡ words (edit (add Kind.Net (netRecord id))) (old desk) ⌝ }
 {
     desk::add_net(desk, id)
 }
 
 #[no_mangle]
 pub extern "C" fn add_end(desk: &mut [u32], net: u32, x: i32, y: i32, mark: u32) -> u32
-    ensures { λ r. ⌜ r ≡ number (edit (add Kind.End (pointRecord net x y mark))) (now (desk .entry)) ⌝ }
-    ensures { λ _. ⌜ now (desk .exit) ≡ words (edit (add Kind.End (pointRecord net x y mark))) (now (desk .entry)) ⌝ }
+    ensures { λ r. ⌜ r ≡ number (edit (add Kind.End (pointRecord net x y mark))) (old desk) ⌝ }
+    ensures { λ _. ⌜ new desk ≡ words (edit (add Kind.End (pointRecord net x y mark))) (old desk) ⌝ }
 {
     desk::add_end(desk, net, x, y, mark)
 }
 
 #[no_mangle]
 pub extern "C" fn retire_box(desk: &mut [u32], id: u32) -> u32
-    ensures { λ r. ⌜ r ≡ number (edit (retire Kind.Box id)) (now (desk .entry)) ⌝ }
-    ensures { λ _. ⌜ now (desk .exit) ≡ words (edit (retire Kind.Box id)) (now (desk .entry)) ⌝ }
+    ensures { λ r. ⌜ r ≡ number (edit (retire Kind.Box id)) (old desk) ⌝ }
+    ensures { λ _. ⌜ new desk ≡ words (edit (retire Kind.Box id)) (old desk) ⌝ }
 {
     desk::retire_box(desk, id)
 }
 
 #[no_mangle]
 pub extern "C" fn retire_port(desk: &mut [u32], at: u32) -> u32
-    ensures { λ r. ⌜ r ≡ number (edit (retire Kind.Port at)) (now (desk .entry)) ⌝ }
-    ensures { λ _. ⌜ now (desk .exit) ≡ words (edit (retire Kind.Port at)) (now (desk .entry)) ⌝ }
+    ensures { λ r. ⌜ r ≡ number (edit (retire Kind.Port at)) (old desk) ⌝ }
+    ensures { λ _. ⌜ new desk ≡ words (edit (retire Kind.Port at)) (old desk) ⌝ }
 {
     desk::retire_port(desk, at)
 }
 
 #[no_mangle]
 pub extern "C" fn retire_net(desk: &mut [u32], id: u32) -> u32
-    ensures { λ r. ⌜ r ≡ number (edit (retire Kind.Net id)) (now (desk .entry)) ⌝ }
-    ensures { λ _. ⌜ now (desk .exit) ≡ words (edit (retire Kind.Net id)) (now (desk .entry)) ⌝ }
+    ensures { λ r. ⌜ r ≡ number (edit (retire Kind.Net id)) (old desk) ⌝ }
+    ensures { λ _. ⌜ new desk ≡ words (edit (retire Kind.Net id)) (old desk) ⌝ }
 {
     desk::retire_net(desk, id)
 }
 
 #[no_mangle]
 pub extern "C" fn retire_end(desk: &mut [u32], at: u32) -> u32
-    ensures { λ r. ⌜ r ≡ number (edit (retire Kind.End at)) (now (desk .entry)) ⌝ }
-    ensures { λ _. ⌜ now (desk .exit) ≡ words (edit (retire Kind.End at)) (now (desk .entry)) ⌝ }
+    ensures { λ r. ⌜ r ≡ number (edit (retire Kind.End at)) (old desk) ⌝ }
+    ensures { λ _. ⌜ new desk ≡ words (edit (retire Kind.End at)) (old desk) ⌝ }
 {
     desk::retire_end(desk, at)
 }
@@ -89,8 +85,8 @@ pub extern "C" fn retire_end(desk: &mut [u32], at: u32) -> u32
 // Undoes the latest change.
 #[no_mangle]
 pub extern "C" fn undo(desk: &mut [u32]) -> u32
-    ensures { λ r. ⌜ r ≡ number (edit undo-call) (now (desk .entry)) ⌝ }
-    ensures { λ _. ⌜ now (desk .exit) ≡ words (edit undo-call) (now (desk .entry)) ⌝ }
+    ensures { λ r. ⌜ r ≡ number (edit undo-call) (old desk) ⌝ }
+    ensures { λ _. ⌜ new desk ≡ words (edit undo-call) (old desk) ⌝ }
 {
     desk::undo(desk)
 }
@@ -110,8 +106,8 @@ pub extern "C" fn search(
     kinds: &mut [u8],
     dirs: &mut [u8],
 ) -> u32
-    ensures { λ r. ⌜ r ≡ number (search-call (query prune (up x) (up y) (now (ex .entry)) (now (ey .entry))) (line-of (now (lx .entry)) (now (ly .entry)) (now (kinds .entry)) (now (dirs .entry)))) (now (desk .entry)) ⌝ }
-    ensures { λ _. ⌜ lined (line-of (now (lx .exit)) (now (ly .exit)) (now (kinds .exit)) (now (dirs .exit))) ≡ outputs (search-call (query prune (up x) (up y) (now (ex .entry)) (now (ey .entry))) (line-of (now (lx .entry)) (now (ly .entry)) (now (kinds .entry)) (now (dirs .entry)))) (now (desk .entry)) ⌝ }
+    ensures { λ r. ⌜ r ≡ number (searchCall prune x y ex ey lx ly kinds dirs) (old desk) ⌝ }
+    ensures { λ _. ⌜ lineLeft lx ly kinds dirs ≡ outputs (searchCall prune x y ex ey lx ly kinds dirs) (old desk) ⌝ }
 {
     desk_search::search(desk, prune, x, y, ex, ey, lx, ly, kinds, dirs)
 }
@@ -130,8 +126,8 @@ pub extern "C" fn layout(
     kinds: &mut [u8],
     joins: &mut [u32],
 ) -> u32
-    ensures { λ r. ⌜ r ≡ number (layout-call (choice prune separate) (drawing (now (nets .entry)) (now (x .entry)) (now (y .entry)) (now (kinds .entry)) (now (joins .entry)))) (now (desk .entry)) ⌝ }
-    ensures { λ _. ⌜ drawn (drawing (now (nets .exit)) (now (x .exit)) (now (y .exit)) (now (kinds .exit)) (now (joins .exit))) ≡ outputs (layout-call (choice prune separate) (drawing (now (nets .entry)) (now (x .entry)) (now (y .entry)) (now (kinds .entry)) (now (joins .entry)))) (now (desk .entry)) ⌝ }
+    ensures { λ r. ⌜ r ≡ number (layoutCall prune separate nets x y kinds joins) (old desk) ⌝ }
+    ensures { λ _. ⌜ drawingLeft nets x y kinds joins ≡ outputs (layoutCall prune separate nets x y kinds joins) (old desk) ⌝ }
 {
     desk_layout::layout(desk, prune, separate, nets, x, y, kinds, joins)
 }

@@ -247,7 +247,7 @@ fn put_record(blk: &mut [u32], kind: Kind, row: &[u32])
     rows::append(&mut blk[a..a + size(kind)], row);
 }
 
-// Adds a record without a copy, as reading a text does.
+// Adds a record without an undo entry, as reading a text does.
 pub fn take_record(desk: &mut [u32], kind: Kind, row: &[u32]) -> u32
     requires { ⌜ Ready (now desk) ⌝ }
     requires { ⌜ length (now row) ≡ width-of kind ⌝ }
@@ -702,7 +702,7 @@ fn lay_retired(desk: &mut [u32], kind: Kind, i: usize)
     lay(desk, &entry);
 }
 
-// Takes the latest entry off and undoes its change.
+// Takes the latest entry, and undoes its change.
 fn take_latest(desk: &mut [u32])
     requires { ⌜ Sound (now desk) ⌝ }
     requires { ⌜ 0 < getD (now desk) 0 0 ⌝ }
@@ -760,7 +760,7 @@ fn retire(desk: &mut [u32], kind: Kind, name: u32) -> u32
     0
 }
 
-// Takes the latest entry off, which brings the copy of before its change back.
+// Undoes the latest change.
 pub fn undo(desk: &mut [u32]) -> u32
     ensures { λ r. ⌜ r ≡ number Call.undo (now (desk .entry)) ⌝ }
     ensures { λ _. ⌜ now (desk .exit) ≡ words Call.undo (now (desk .entry)) ⌝ }

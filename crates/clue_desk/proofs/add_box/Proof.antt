@@ -16,7 +16,8 @@ same-length c = search needs
 returns : tie.Need-returns
 returns c =
     let start = c .before .before .before .before .before in
-    as-called _ _ (start .args .desk .now) _ _ (box-call _ _ _ _ _ _ _ _ _ (toZ-ofZ w32 (start .args .x0) (start .fits .x0)) (toZ-ofZ w32 (start .args .y0) (start .fits .y0)) (toZ-ofZ w32 (start .args .x1) (start .fits .x1)) (toZ-ofZ w32 (start .args .y1) (start .fits .y1)))
+    as-called _ _ (start .args .desk .now) _ _ (box-call _ _ _ _ _ _ _ _ _ (toZ-ofZ w32 (start .args .x0) (start .fits .x0)) (toZ-ofZ w32 (start .args .y0) (start .fits .y0))
+    (toZ-ofZ w32 (start .args .x1) (start .fits .x1)) (toZ-ofZ w32 (start .args .y1) (start .fits .y1)))
     (c .before .before .add-box .ensures)
 
 pub add-box-spec : {M : Type 1} → statement M

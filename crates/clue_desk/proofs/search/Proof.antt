@@ -23,8 +23,10 @@ same-length-4 c = search needs
 
 returns : tie.Need-returns
 returns c =
-    search-called (c .before .before .before .before .before .before .before .before .before .before .before .before .before .before .args .desk .now) _ _ _ _ _ _ (c .before .before .before .before .before .before .before .before .before .before .before .before .before .before .args .x) (c .before .before .before .before .before .before .before .before .before .before .before .before .before .before .args .y) _ _ (toZ-ofZ w32 (c .before .before .before .before .before .before .before .before .before .before .before .before .before .before .args .x) (c .before .before .before .before .before .before .before .before .before .before .before .before .before .before .fits .x)) (toZ-ofZ w32 (c .before .before .before .before .before .before .before .before .before .before .before .before .before .before .args .y) (c .before .before .before .before .before .before .before .before .before .before .before .before .before .before .fits .y))
-    (c .before .before .before .before .before .before .search .ensures)
+    let at-search = c .before .before .before .before .before .before in
+    let entry = at-search .before .before .before .before .before .before .before .before in
+    search-called (entry .args .desk .now) _ _ _ _ _ _ (entry .args .x) (entry .args .y) _ _ (toZ-ofZ w32 (entry .args .x) (entry .fits .x)) (toZ-ofZ w32 (entry .args .y) (entry .fits .y))
+    (at-search .search .ensures)
 
 pub search-spec : {M : Type 1} → statement M
 search-spec = tie.close (tie.spec search-requires same-length same-length-2 same-length-3 same-length-4 returns)
