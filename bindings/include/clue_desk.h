@@ -112,8 +112,8 @@ extern "C" {
 #define CLUE_DESK_KIND_NET 2
 #define CLUE_DESK_KIND_END 3
 
-/* Bytes of stack that suffice for a call; measured, not proved: layout takes 519,816 of a thread's, search 378,344, the other calls
- * 14,424. */
+/* Bytes of stack that suffice for a call; measured, not proved: layout takes 519,832 of a thread's, search 378,360, the other calls
+ * 15,448. */
 #define CLUE_DESK_STACK 655360
 
 /* A port's directions are a sum of these; the direction onward of a line's node is one of them. */
