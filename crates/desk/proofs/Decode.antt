@@ -9,7 +9,7 @@ use mathlib.Core.List.{List, [], _∷_, _++_, map}
 use mathlib.Core.Bool.{true, _&&_, true≢false}
 use Prim.Native.Nat.{ℕ, zero, suc, _+_, _-_, _*_, _≤_, _<_, min}
 use native.Mathlib.Omega.{arith}
-use lib.ListN.{length, getD, take, drop, set, length-drop, length-set}
+use lib.ListN.{length, getD, take, drop, set, replicate, length-drop, length-set}
 use lib.Seq
 use lib.Dec.{eqb}
 use borrow.Author.Tests.{ltb-true, leb-true, eqb-true, lt-ltb, le-ltb}
@@ -399,7 +399,7 @@ long-out k = refl
 
 module _ (k : Kind) (i : ℕ) (r : Record) (hw : length r ≡ width k) where
   abbrev base : List ℕ
-  base = (KINDS + tag k) ∷ i ∷ 0 ∷ 0 ∷ 0 ∷ 0 ∷ 0 ∷ []
+  base = set (set (replicate ENTRY 0) 0 (KINDS + tag k)) 1 i
 
   first-two : take 2 (backWords k i r) ≡ (KINDS + tag k) ∷ i ∷ []
   unfolding backWords

@@ -4,7 +4,7 @@ use mathlib.Core.List.{List, [], _∷_, _++_, append-nil}
 use mathlib.Core.Bool.{Bool, true, false, not, cond}
 use Prim.Native.Nat.{ℕ, _+_, _-_, _*_, _≤_, _<_, min}
 use native.Mathlib.Omega.{arith}
-use lib.ListN.{length, getD, take, drop, set, drop-of-length-le}
+use lib.ListN.{length, getD, take, drop, set, replicate, drop-of-length-le}
 use lib.Seq
 use lib.Dec.{eqb, leb}
 use lib.IntN.{ℤ}
@@ -205,7 +205,7 @@ module _ (ws : List ℕ) (h : DESK ≤ length ws) (d ys : List ℕ) (ld : length
   copy-ok ok = rw copy-is ok
 
 -- ---- the entries of a change
-pub laid-out : (ws w : List ℕ) (k : Kind) (t : ℕ) → t ≡ tag k → w ≡ laid (t ∷ 0 ∷ 0 ∷ 0 ∷ 0 ∷ 0 ∷ 0 ∷ []) ws → w ≡ laid (outWords k) ws
+pub laid-out : (ws w : List ℕ) (k : Kind) (t : ℕ) → t ≡ tag k → w ≡ laid (set (replicate ENTRY 0) 0 t) ws → w ≡ laid (outWords k) ws
 unfolding outWords
 laid-out ws w k t e q = q ∙ rw e
 
@@ -238,7 +238,7 @@ module _ (ws : List ℕ) (h : DESK ≤ length ws) (cnt : Counted (block ws)) (k 
     row-fits = ap length row-taken ∙ Decode.row-full k (block ws) cnt i hi
 
     pub laid-back : (t p : ℕ) (e l : List ℕ) → t ≡ tag k → p ≡ i
-        → e ≡ pasted ((KINDS + t) ∷ p ∷ 0 ∷ 0 ∷ 0 ∷ 0 ∷ 0 ∷ []) 2 (take n (drop (2 + s + i * w) ws)) (length (take n (drop (2 + s + i * w) ws)))
+        → e ≡ pasted (set (set (replicate ENTRY 0) 0 (KINDS + t)) 1 p) 2 (take n (drop (2 + s + i * w) ws)) (length (take n (drop (2 + s + i * w) ws)))
         → l ≡ laid e ws → l ≡ laid (backWords k i (getD (listOf k (block ws)) i [])) ws
     unfolding backWords
     laid-back t p e l et ep ee el = el ∙ ap (λ (x : List ℕ). laid x ws) (ee ∙ rw (row-fits, row-taken, et, ep))

@@ -4,7 +4,7 @@ use mathlib.Core.Path.{_≡_}
 use mathlib.Core.List.{List, [], _∷_, map}
 use mathlib.Core.Bool.{Bool, true, cond, _&&_}
 use Prim.Native.Nat.{ℕ, _+_, _-_, _*_, _≤_, min}
-use lib.ListN.{length, getD, take, drop, set}
+use lib.ListN.{length, getD, take, drop, set, replicate}
 use lib.Dec.{eqb, leb, ltb}
 use Rattle.rows.specs.Rows.{pasted, part, withPart, rows, records, key, isIn, count, putLast, takeOut, putIn}
 use Rattle.desk.specs.Sizes.{COPIES, BOX-AREA, PORT-AREA, NET-AREA, END-AREA, PORTS-AT, NETS-AT, ENDS-AT, BLOCK, NEXT, ENTRY, LATER, DESK}
@@ -76,12 +76,12 @@ unfoldable pub entryOf : List ℕ → Entry
 entryOf e =
     cond (ltb (getD e 0 0) KINDS) (out (kindOf (getD e 0 0))) (cond (ltb (getD e 0 0) (2 * KINDS)) (comesBack (kindOf (getD e 0 0 - KINDS)) e) none)
 
--- the words of the two
+-- the words of the two, zeros behind them
 unfoldable pub outWords : Kind → List ℕ
-outWords k = tag k ∷ 0 ∷ 0 ∷ 0 ∷ 0 ∷ 0 ∷ 0 ∷ []
+outWords k = set (replicate ENTRY 0) 0 (tag k)
 
 unfoldable pub backWords : Kind → ℕ → Record → List ℕ
-backWords k i r = pasted ((KINDS + tag k) ∷ i ∷ 0 ∷ 0 ∷ 0 ∷ 0 ∷ 0 ∷ []) 2 r (width k)
+backWords k i r = pasted (set (set (replicate ENTRY 0) 0 (KINDS + tag k)) 1 i) 2 r (width k)
 
 -- the block before the change that an entry undoes
 unfoldable pub blockBefore : Entry → List ℕ → List ℕ

@@ -684,7 +684,8 @@ fn lay_added(desk: &mut [u32], kind: Kind)
     requires { ⌜ DESK ≤ length (now desk) ⌝ }
     ensures { λ _. ⌜ now (desk .exit) ≡ laid (outWords kind) (now (desk .entry)) ⌝ }
 {
-    let entry = [tag(kind), 0, 0, 0, 0, 0, 0];
+    let mut entry: [u32; ENTRY] = [0; ENTRY];
+    entry[0] = tag(kind);
     lay(desk, &entry);
 }
 
@@ -695,7 +696,9 @@ fn lay_retired(desk: &mut [u32], kind: Kind, i: usize)
     requires { ⌜ i < count (area kind (block (now desk))) ⌝ }
     ensures { λ _. ⌜ now (desk .exit) ≡ laid (backWords kind i (getD (listOf kind (block (now (desk .entry)))) i [])) (now (desk .entry)) ⌝ }
 {
-    let mut entry = [KINDS + tag(kind), i as u32, 0, 0, 0, 0, 0];
+    let mut entry: [u32; ENTRY] = [0; ENTRY];
+    entry[0] = KINDS + tag(kind);
+    entry[1] = i as u32;
     let w = width(kind);
     let a = 2 + area_at(kind) + i * w;
     rows::put(&mut entry, 2, &desk[a..a + w]);

@@ -2,23 +2,29 @@
 use mathlib.Core.Path.{refl}
 use Prim.Native.Nat.{_+_, _-_, _*_}
 use native.Mathlib.Omega.{arith}
-use borrow.Author.Needs.{needs}
-use Rattle.desk.proofs.Whole
-use Rattle.desk.proofs.Decode
 use Rattle.desk.proofs.Blocks
+use Rattle.desk.proofs.Decode
+use Rattle.desk.proofs.Whole
+use borrow.Author.Needs.{needs}
 use Rattle.desk.proofs.lay_retired.Statement.{statement}
 use Rattle.desk.proofs.lay_retired.Tie as tie
 
 tag-requires : tie.Need-tag-requires
 tag-requires c κs = search needs
 
-add-t8 : tie.Need-add-t8
-add-t8 c = omega (arith, Decode.few-tags (c .before .before .args .kind), c .tag .ensures)
+add-entry : tie.Need-add-entry
+add-entry c = omega (arith, Decode.few-tags (c .before .before .args .kind), c .tag .ensures)
 
-cast-t9 : tie.Need-cast-t9
-cast-t9 c =
+array-write-entry : tie.Need-array-write-entry
+array-write-entry c = search needs
+
+cast-entry : tie.Need-cast-entry
+cast-entry c =
     let entry = c .before .before in
     omega (arith, Blocks.few-most (entry .args .kind), entry .pre .1 .0 .few (entry .args .kind), entry .pre .1 .1)
+
+array-write-entry-2 : tie.Need-array-write-entry-2
+array-write-entry-2 c = search needs
 
 width-requires : tie.Need-width-requires
 width-requires c κs = search needs
@@ -28,38 +34,31 @@ area-at-requires c κs = search needs
 
 add-a : tie.Need-add-a
 add-a c =
-    let at-width = c .before in
-    let entry = at-width .before .before .before in
-    omega (arith, Whole.row-room _ (entry .pre .0) (entry .pre .1 .0) _ _ (entry .pre .1 .1) _ _ (at-width .width .ensures) (c .area-at .ensures), entry .pre .0)
+    let entry = c .before .before .before .before in
+    omega (arith, Whole.row-room _ (entry .pre .0) (entry .pre .1 .0) _ _ (entry .pre .1 .1) _ _ (c .before .width .ensures) (c .area-at .ensures), entry .pre .0)
 
 mul-a : tie.Need-mul-a
 mul-a c =
-    let at-width = c .before in
-    let entry = at-width .before .before .before in
-    omega (arith, Whole.row-room _ (entry .pre .0) (entry .pre .1 .0) _ _ (entry .pre .1 .1) _ _ (at-width .width .ensures) (c .area-at .ensures), entry .pre .0)
+    let entry = c .before .before .before .before in
+    omega (arith, Whole.row-room _ (entry .pre .0) (entry .pre .1 .0) _ _ (entry .pre .1 .1) _ _ (c .before .width .ensures) (c .area-at .ensures), entry .pre .0)
 
 add-a-2 : tie.Need-add-a-2
 add-a-2 c =
-    let at-width = c .before in
-    let entry = at-width .before .before .before in
-    omega (arith, Whole.row-room _ (entry .pre .0) (entry .pre .1 .0) _ _ (entry .pre .1 .1) _ _ (at-width .width .ensures) (c .area-at .ensures), entry .pre .0)
+    let entry = c .before .before .before .before in
+    omega (arith, Whole.row-room _ (entry .pre .0) (entry .pre .1 .0) _ _ (entry .pre .1 .1) _ _ (c .before .width .ensures) (c .area-at .ensures), entry .pre .0)
 
 slice-aggregate-put : tie.Need-slice-aggregate-put
 slice-aggregate-put c = search needs
 
 add-put : tie.Need-add-put
 add-put c =
-    let at-area-at = c .before in
-    let at-width = at-area-at .before in
-    let entry = at-width .before .before .before in
-    omega (arith, Whole.row-room _ (entry .pre .0) (entry .pre .1 .0) _ _ (entry .pre .1 .1) _ _ (at-width .width .ensures) (at-area-at .area-at .ensures), entry .pre .0)
+    let entry = c .before .before .before .before .before in
+    omega (arith, Whole.row-room _ (entry .pre .0) (entry .pre .1 .0) _ _ (entry .pre .1 .1) _ _ (c .before .before .width .ensures) (c .before .area-at .ensures), entry .pre .0)
 
 mul-put : tie.Need-mul-put
 mul-put c =
-    let at-area-at = c .before in
-    let at-width = at-area-at .before in
-    let entry = at-width .before .before .before in
-    omega (arith, Whole.row-room _ (entry .pre .0) (entry .pre .1 .0) _ _ (entry .pre .1 .1) _ _ (at-width .width .ensures) (at-area-at .area-at .ensures), entry .pre .0)
+    let entry = c .before .before .before .before .before in
+    omega (arith, Whole.row-room _ (entry .pre .0) (entry .pre .1 .0) _ _ (entry .pre .1 .1) _ _ (c .before .before .width .ensures) (c .before .area-at .ensures), entry .pre .0)
 
 sub-put : tie.Need-sub-put
 sub-put c = search needs
@@ -69,10 +68,8 @@ part-put-start c = search needs
 
 part-put-end : tie.Need-part-put-end
 part-put-end c =
-    let at-area-at = c .before .before in
-    let at-width = at-area-at .before in
-    let entry = at-width .before .before .before in
-    omega (arith, Whole.row-room _ (entry .pre .0) (entry .pre .1 .0) _ _ (entry .pre .1 .1) _ _ (at-width .width .ensures) (at-area-at .area-at .ensures), entry .pre .0)
+    let entry = c .before .before .before .before .before .before in
+    omega (arith, Whole.row-room _ (entry .pre .0) (entry .pre .1 .0) _ _ (entry .pre .1 .1) _ _ (c .before .before .before .width .ensures) (c .before .before .area-at .ensures), entry .pre .0)
 
 put-requires : tie.Need-put-requires
 put-requires c κs =
@@ -82,10 +79,8 @@ put-requires c κs =
     omega (
       arith,
       Whole.row-narrow _ (entry .pre .0) (entry .pre .1 .0) _ _ (entry .pre .1 .1) _ _ (at-width .width .ensures) (at-area-at .area-at .ensures),
-      Whole.row-fits _ (entry .pre .0)
-          (entry .pre .1 .0) _ _ (entry .pre .1 .1) _ _ (at-width .width .ensures) (at-area-at .area-at .ensures)
-          (2 + at-area-at .area-at .result + entry .args .i * at-width .width .result + at-width .width .result -
-          (2 + at-area-at .area-at .result + entry .args .i * at-width .width .result)) refl,
+      Whole.row-fits _ (entry .pre .0) (entry .pre .1 .0) _ _ (entry .pre .1 .1) _ _ (at-width .width .ensures) (at-area-at .area-at .ensures)
+          (2 + at-area-at .area-at .result + entry .args .i * at-width .width .result + at-width .width .result - (2 + at-area-at .area-at .result + entry .args .i * at-width .width .result)) refl,
       at-width .width .ensures,
     )
 
@@ -114,8 +109,10 @@ lay-retired-spec =
     tie.close
     (tie.spec
     tag-requires
-    add-t8
-    cast-t9
+    add-entry
+    array-write-entry
+    cast-entry
+    array-write-entry-2
     width-requires
     area-at-requires
     add-a
