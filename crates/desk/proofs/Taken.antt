@@ -1,25 +1,29 @@
 -- What the test of an undo entry answers, and what it leaves.
 --     out-none, out-answer                      an addition undone
---     back-far, back-bad, back-new, back-there  a retirement undone
+--     back-far, back-bad, back-not, back-there  a retirement undone
 --     as-out, as-back, as-none, of-entry        an entry by its words
-use mathlib.Core.Path.{_≡_, sym, ap, _∙_}
+use mathlib.Core.Path.{_≡_, refl, sym, ap, _∙_}
 use mathlib.Core.List.{List}
-use mathlib.Core.Bool.{Bool, true, false, not, _&&_}
+use mathlib.Core.Bool.{Bool, true, false, not, cond, _&&_}
 use Prim.Native.Nat.{ℕ, _+_, _-_, _*_, _≤_, _<_}
 use native.Mathlib.Omega.{arith}
 use lib.ListN.{length, getD, take, drop, length-drop}
 use lib.Seq.{length-take-le}
-use lib.Dec.{eqb}
+use lib.Dec.{eqb, leb}
 use borrow.Author.Tests.{eq-eqb, ne-eqb, le-ltb, lt-ltb, le-leb, lt-leb, not-true, not-false}
 use Rattle.rows.specs.Rows.{key, count}
 use Rattle.desk.specs.Sizes.{BLOCK, ENTRY}
-use Rattle.desk.specs.Book.{Record, Lists, list, width, okRecord, okLists, addNumber, roomNumber}
-use Rattle.desk.specs.Entries.{Entry, out, back, none, applies, before, isHeld}
+use Rattle.desk.specs.Book.{Record, Lists, list, width, okRecord, okLists, addNumber}
+use Rattle.desk.specs.Entries.{Entry, out, back, none, applies, restored, noDesk, before, isHeld}
 use Rattle.desk.specs.Desk.{area, listOf, listsOf, Counted, withoutRow, withRowAt, KINDS, kindOf, comesBack, entryOf, blockBefore}
 use Rattle.desk.specs.declared.Kind.{Kind}
 use Rattle.desk.proofs.Blocks
 use Rattle.desk.proofs.Entries
 use Rattle.desk.proofs.Decode
+
+and-false : (b : Bool) → b && false ≡ false
+and-false true = refl
+and-false false = refl
 
 module _ (k : Kind) (blk : List ℕ) (hb : length blk ≡ BLOCK) (ok : okLists (listsOf blk) ≡ true) where
   pub counted : Counted blk
@@ -55,35 +59,33 @@ module _ (k : Kind) (blk : List ℕ) (hb : length blk ≡ BLOCK) (ok : okLists (
     unfolding blockBefore
     is-out ys e = e ∙ ap (λ (t : ℕ). withoutRow k (t - 1) blk) en
 
-    -- ---- a retirement undone
+    -- ---- a retirement undone: the place is there, and the record could be added
     module _ (i : ℕ) (r : Record) where
+      abbrev adds : Bool
+      adds = okRecord k r && eqb (addNumber k (listsOf blk) (key r)) 0
+
+      back-answer : okLists (before (back k i r) (listsOf blk)) ≡ leb i n && adds
+      unfolding before applies
+      back-answer = rw here (go (leb i n))
+        where
+          go : (b : Bool) → okLists (cond b (restored (back k i r) (listsOf blk)) noDesk) ≡ b && adds
+          go true = Entries.back-ok (listsOf blk) ok k i r
+          go false = Entries.no-desk
+
       pub back-far : n < i → false ≡ okLists (before (back k i r) (listsOf blk))
-      unfolding applies
-      back-far h = sym (Entries.unapplied (back k i r) (listsOf blk) (lt-leb i (length (list k (listsOf blk))) (omega (arith, here))))
+      back-far h = sym (back-answer ∙ rw (lt-leb i n h))
 
-      module _ (hi : i ≤ n) (b : Bool) (eb : b ≡ okRecord k r) where
-        back-answer : okLists (before (back k i r) (listsOf blk)) ≡ b && eqb (addNumber k (listsOf blk) (key r)) 0
-        unfolding before applies
-        back-answer =
-            rw (le-leb i (length (list k (listsOf blk))) (omega (arith, here)), eb)
-            (Entries.back-ok (listsOf blk) ok k i r)
+      pub back-bad : (b : Bool) → b ≡ okRecord k r → not b ≡ true → false ≡ okLists (before (back k i r) (listsOf blk))
+      back-bad b eb t = sym (back-answer ∙ rw (← eb, not-true b t) (and-false (leb i n)))
 
-        pub back-bad : not b ≡ true → false ≡ okLists (before (back k i r) (listsOf blk))
-        back-bad t = sym (back-answer ∙ ap (λ (x : Bool). x && eqb (addNumber k (listsOf blk) (key r)) 0) (not-true b t))
+      module _ (v : ℕ) (ev : v ≡ addNumber k (listsOf blk) (getD r 0 0)) where
+        pub back-not : (v ≡ 0 → ⊥) → false ≡ okLists (before (back k i r) (listsOf blk))
+        unfolding key
+        back-not z = sym (back-answer ∙ rw (← ev, ne-eqb v 0 z, and-false (okRecord k r)) (and-false (leb i n)))
 
-        module _ (t : not b ≡ false) (v : ℕ) (ev : v ≡ addNumber k (listsOf blk) (getD r 0 0)) where
-          back-by : okLists (before (back k i r) (listsOf blk)) ≡ eqb v 0
-          unfolding key
-          back-by = back-answer ∙ rw (not-false b t, ← ev)
-
-          pub back-not : (v ≡ 0 → ⊥) → false ≡ okLists (before (back k i r) (listsOf blk))
-          back-not z = sym (back-by ∙ ne-eqb v 0 z)
-
-          pub back-there : v ≡ 0 → true ≡ okLists (before (back k i r) (listsOf blk))
-          back-there z = sym (back-by ∙ eq-eqb v 0 z)
-
-          pub can-insert : length r ≡ width k → v ≡ 0 → (length r ≡ width k) × (roomNumber k (listOf k blk) ≡ 0) × (i ≤ count (area k blk))
-          can-insert hw z = (hw, Blocks.room-of k blk (getD r 0 0) v ev z, omega (arith, hi, en))
+        pub back-there : v ≡ 0 → (b : Bool) → b ≡ okRecord k r → not b ≡ false → i ≤ n → true ≡ okLists (before (back k i r) (listsOf blk))
+        unfolding key
+        back-there z b eb t h = sym (back-answer ∙ rw (← ev, eq-eqb v 0 z, ← eb, not-false b t, le-leb i n h))
 
   pub is-back : (i : ℕ) (r ys : List ℕ) → ys ≡ withRowAt k i r blk → ys ≡ blockBefore (back k i r) blk
   unfolding blockBefore

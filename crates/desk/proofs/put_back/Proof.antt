@@ -16,8 +16,12 @@ same-length c = search needs
 
 returns : tie.Need-returns
 returns c =
-    let entry = c .before .before .before .before .before in
-    (Taken.back-far _ _ (entry .pre .0) (entry .pre .1) _ (c .before .records .ensures) _ _ (c .if1 .taken), λ z. absurd (true≢false (sym z)))
+    let at-records = c .before in
+    let entry = at-records .before .before .before .before in (
+      Taken.back-far _ _ (entry .pre .0) (entry .pre .1) (at-records .records .result) (at-records .records .ensures) (entry .args .i) _ (omega (arith, c .if1 .taken)),
+      λ z. absurd
+          (true≢false (sym z)),
+    )
 
 ok-record-requires : tie.Need-ok-record-requires
 ok-record-requires c κs = search needs
@@ -27,11 +31,8 @@ same-length-2 c = search needs
 
 returns-2 : tie.Need-returns-2
 returns-2 c =
-    let entry = c .before .before .before .before .before .before .before in (
-      Taken.back-bad _ _ (entry .pre .0) (entry .pre .1) _ (c .before .before .before .records .ensures) _ _ (c .before .before .if1 .left) _ (c .before .ok-record .ensures)
-          (c .if2 .taken),
-      λ z. absurd (true≢false (sym z)),
-    )
+    let entry = c .before .before .before .before .before .before .before in
+    (Taken.back-bad _ _ (entry .pre .0) (entry .pre .1) _ (c .before .before .before .records .ensures) _ _ _ (c .before .ok-record .ensures) (c .if2 .taken), λ z. absurd (true≢false (sym z)))
 
 shared-slice-read-add-number : tie.Need-shared-slice-read-add-number
 shared-slice-read-add-number c =
@@ -48,23 +49,17 @@ same-length-3 c = search needs
 
 returns-3 : tie.Need-returns-3
 returns-3 c =
-    let at-if1 = c .before .before .before .before .before .before in
-    let at-records = at-if1 .before in
-    let entry = at-records .before .before .before .before in (
-      Taken.back-not _ _ (entry .pre .0) (entry .pre .1) _ (at-records .records .ensures) _ _ (at-if1 .if1 .left) _ (c .before .before .before .before .before .ok-record .ensures)
-          (c .before .before .before .before .if2 .left) _ (c .before .add-number .ensures) (c .if3 .taken),
-      λ z. absurd (true≢false (sym z)),
-    )
+    let at-records = c .before .before .before .before .before .before .before in
+    let entry = at-records .before .before .before .before in
+    (Taken.back-not _ _ (entry .pre .0) (entry .pre .1) _ (at-records .records .ensures) _ _ _ (c .before .add-number .ensures) (c .if3 .taken), λ z. absurd (true≢false (sym z)))
 
 insert-record-requires : tie.Need-insert-record-requires
 insert-record-requires c κs =
-    let at-ok-record = c .before .before .before .before .before .before in
-    let at-if1 = at-ok-record .before in
+    let at-if1 = c .before .before .before .before .before .before .before in
     let at-records = at-if1 .before in
     let entry = at-records .before .before .before .before in (
       Taken.counted (entry .args .kind) _ (entry .pre .0) (entry .pre .1),
-      Taken.can-insert _ _ (entry .pre .0) (entry .pre .1) _ (at-records .records .ensures) _ _ (at-if1 .if1 .left) _
-          (at-ok-record .ok-record .ensures) (c .before .before .before .before .before .if2 .left) _ (c .before .before .add-number .ensures) (entry .pre .2) (c .before .if3 .left),
+      (entry .pre .2, Blocks.room-of (entry .args .kind) _ _ _ (c .before .before .add-number .ensures) (c .before .if3 .left), omega (arith, at-if1 .if1 .left, at-records .records .ensures)),
     )
 
 same-length-4 : tie.Need-same-length-4
@@ -77,10 +72,10 @@ returns-4 c =
     let at-if1 = at-ok-record .before in
     let at-records = at-if1 .before in
     let entry = at-records .before .before .before .before in (
-      Taken.back-there _ _ (entry .pre .0) (entry .pre .1) _ (at-records .records .ensures) _ _ (at-if1 .if1 .left) _ (at-ok-record .ok-record .ensures) (at-if2 .if2 .left) _
-          (c .before .before .before .before .before .add-number .ensures) (c .before .before .before .before .if3 .left),
-      λ z. Taken.is-back _ _ (entry .pre .0) (entry .pre .1) _ _ _
-          (c .before .before .insert-record .ensures),
+      Taken.back-there _ _ (entry .pre .0) (entry .pre .1) (at-records .records .result) (at-records .records .ensures) (entry .args .i) _ _
+          (c .before .before .before .before .before .add-number .ensures) (c .before .before .before .before .if3 .left) _ (at-ok-record .ok-record .ensures) (at-if2 .if2 .left)
+          (omega (arith, at-if1 .if1 .left)),
+      λ z. Taken.is-back _ _ (entry .pre .0) (entry .pre .1) _ _ _ (c .before .before .insert-record .ensures),
     )
 
 pub put-back-spec : {M : Type 1} → statement M
