@@ -149,10 +149,10 @@ fn same_words(a: &[u32], b: &[u32]) -> bool {
 fn same_lists(a: &[u32], b: &[u32]) -> bool
     requires { ⌜ (DESK ≤ length (now a)) × (DESK ≤ length (now b)) ⌝ }
 {
-    same_area(a, b, 1, desk::BOX, desk::BOXES)
-        & same_area(a, b, 1 + desk::PORTS_AT, desk::PORT, desk::PORTS)
-        & same_area(a, b, 1 + desk::NETS_AT, desk::NET, desk::NETS)
-        & same_area(a, b, 1 + desk::ENDS_AT, desk::END, desk::ENDS)
+    same_area(a, b, 1, book::BOX, book::BOXES)
+        & same_area(a, b, 1 + block::PORTS_AT, book::PORT, book::PORTS)
+        & same_area(a, b, 1 + block::NETS_AT, book::NET, book::NETS)
+        & same_area(a, b, 1 + block::ENDS_AT, book::END, book::ENDS)
 }
 
 // The place behind the counted bytes that follow the line at `at`, or the list's end.

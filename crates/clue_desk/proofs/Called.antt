@@ -6,7 +6,7 @@ use mathlib.Core.List.{List}
 use Rattle.fixed.specs.Up.{up}
 use Rattle.desk_search.specs.Query.{query}
 use Rattle.desk_search.specs.Search.{Outputs, deskNumber, deskOutputs}
-use Rattle.desk.specs.declared.Kind.{Kind}
+use Rattle.book.specs.declared.Kind.{Kind}
 use Rattle.desk.specs.Calls.{boxRecord, pointRecord}
 use Rattle.desk.specs.Calls.Call.{add}
 use Rattle.clue_desk.specs.Calls.Outputs.{lined}

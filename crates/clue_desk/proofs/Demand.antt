@@ -13,18 +13,20 @@ use lib.Dec.{leb, eqb}
 use borrow.Author.Tests.{leb-true, eqb-true}
 use Rattle.fixed.proofs.Bools.{and-left}
 use Rattle.rows.specs.Rows.{key}
-use Rattle.desk.specs.Sizes.{DESK, PORTS-AT, NETS-AT, ENDS-AT}
-use Rattle.desk.specs.Book.{Lists, Book, Seen, seen, valid, change, withRecord, noLists, bookWith, noBook, Item, inOrder}
-use Rattle.desk.specs.Desk.{Sound, start, bookOf, seenOf, sized, at0}
+use Rattle.desk.specs.Sizes.{DESK}
+use Rattle.block.specs.Sizes.{PORTS-AT, NETS-AT, ENDS-AT}
+use Rattle.book.specs.Book.{Lists, Book, Seen, seen, valid, change, withRecord, noLists, bookWith, noBook, Item, inOrder}
+use Rattle.desk.specs.Desk.{Sound, bookOf, seenOf, sized, at0}
+use Rattle.block.specs.Block.{start}
 use Rattle.desk.specs.Calls.{Call as Edit, says as editSays, does as editDoes, makes as editMakes, number as editNumber}
 use Rattle.desk.specs.Calls.Call.{add, retire, undo}
-use Rattle.desk.specs.declared.Kind.{Kind}
-use Rattle.desk.proofs.Fields.{answer-n, record-0}
-use Rattle.desk.proofs.Keeps.{lists-ok}
+use Rattle.book.specs.declared.Kind.{Kind}
+use Rattle.book.proofs.Fields.{answer-n, record-0}
+use Rattle.book.proofs.Keeps.{lists-ok}
 use Rattle.desk.proofs.Decode.{book-none}
 use Rattle.desk.proofs.Changes.{keeps, stands-for}
 use Rattle.desk.proofs.Longer.{lent-long, long-enough, seen-lent, book-lent, lent-by, sound-longer}
-use Rattle.desk.proofs.Builds.{Builds, none as none-built, one, builds}
+use Rattle.book.proofs.Builds.{Builds, none as none-built, one, builds}
 use Rattle.page_text.specs.Reading.{readText}
 use Rattle.page_text.specs.Words.{REFUSAL, isLent, readNumber, readWords, readRefusal, textWords}
 use Rattle.page_text.proofs.Turns.{decoded}

@@ -11,13 +11,16 @@ use borrow.Author.Tests.{leb-true}
 use Rattle.fixed.proofs.Bools.{and-left}
 use Rattle.rows.specs.Rows.{key, count}
 use Rattle.rows.proofs.Parts
-use Rattle.desk.specs.Sizes.{DESK, BLOCK, PORTS-AT, NETS-AT, ENDS-AT}
-use Rattle.desk.specs.Book.{Record, width, most, fieldsNumber, addNumber, takeNumber}
-use Rattle.desk.specs.Desk.{Ready, block, area, listsOf, withBlock, withRow, emptied, taken, at0}
-use Rattle.desk.specs.declared.Kind.{Kind}
-use Rattle.desk.proofs.Fields.{answer-0}
-use Rattle.desk.proofs.Blocks.{room-of, room-0}
-use Rattle.desk.proofs.Decode.{counted-with, ready-emptied}
+use Rattle.desk.specs.Sizes.{DESK}
+use Rattle.block.specs.Sizes.{BLOCK, PORTS-AT, NETS-AT, ENDS-AT}
+use Rattle.book.specs.Book.{Record, width, most, fieldsNumber, addNumber, takeNumber}
+use Rattle.desk.specs.Desk.{Ready, block, withBlock, emptied, taken, at0}
+use Rattle.block.specs.Block.{area, listsOf, withRow}
+use Rattle.book.specs.declared.Kind.{Kind}
+use Rattle.book.proofs.Fields.{answer-0}
+use Rattle.block.proofs.Blocks.{room-of, room-0}
+use Rattle.block.proofs.Lists.{counted-with}
+use Rattle.desk.proofs.Decode.{ready-emptied}
 use Rattle.page_line.specs.Records.{Line, entry, malformed}
 use Rattle.page_line.specs.Lines.{textLines}
 use Rattle.page_line.proofs.Wide.{Wide, AllWide, wide-lines}

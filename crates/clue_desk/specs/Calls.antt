@@ -7,11 +7,12 @@ use Prim.Native.Nat.{ℕ, _+_, _≤_}
 use lib.ListN.{length, getD, take, drop, replicate}
 use lib.Dec.{eqb, leb}
 use Rattle.desk.specs.Sizes.{DESK}
-use Rattle.desk.specs.Book.{Lists, Book, Seen, seen, bookWith, noBook, Item, inOrder}
-use Rattle.desk.specs.Desk.{start, bookOf}
+use Rattle.book.specs.Book.{Lists, Book, Seen, seen, bookWith, noBook, Item, inOrder}
+use Rattle.block.specs.Block.{start}
+use Rattle.desk.specs.Desk.{bookOf}
 use Rattle.desk.specs.Calls.{Call as Edit, says as editSays, makes as editMakes, number as editNumber, words as editWords}
 use Rattle.desk.specs.Calls.Call.{add, retire, undo}
-use Rattle.desk.specs.declared.Kind.{Kind}
+use Rattle.book.specs.declared.Kind.{Kind}
 use Rattle.page_text.specs.Reading.{readText}
 use Rattle.page_text.specs.Words.{REFUSAL, told as refusalWords, readNumber, readWords, readRefusal}
 use Rattle.desk_search.specs.Query.{Query}

@@ -1,6 +1,6 @@
 // The public calls on a desk. The claims about lists of calls stand in specs/Calls.antt.
 ghost use mathlib.Core.Path.{_≡_};
-ghost use Rattle.desk.specs.declared.Kind.{Kind};
+ghost use Rattle.book.specs.declared.Kind.{Kind};
 ghost use Rattle.desk.specs.Calls.{boxRecord, pointRecord, netRecord};
 ghost use Rattle.desk.specs.Calls.Call.{add, retire, undo as undo-call};
 ghost use Rattle.clue_desk.specs.Calls.{number, words, outputs};

@@ -5,27 +5,30 @@
 use mathlib.Core.Path.{_≡_, refl, sym, ap, _∙_}
 use mathlib.Core.List.{List, []}
 use mathlib.Core.Bool.{Bool, true, false, cond}
-use Prim.Native.Nat.{ℕ, zero, suc, _+_, _-_, _≤_, _<_}
+use Prim.Native.Nat.{ℕ, zero, suc, _-_, _≤_, _<_}
 use native.Mathlib.Omega.{arith}
 use lib.ListN.{length, getD, drop}
 use lib.Dec.{leb, eqb}
 use borrow.Author.Tests.{ne-eqb, eqb-true, leb-true}
 use Rattle.rows.specs.Rows.{key, without}
-use Rattle.desk.specs.Sizes.{COPIES, BLOCK, ENTRY, DESK}
-use Rattle.desk.specs.Book.{Record, Lists, Book, seen, list, withList, width, fieldsNumber, nameNumber, okLists, valid, change}
-use Rattle.desk.specs.Book.{addNumber, retireNumber, spot, withRecord, withoutRecord}
-use Rattle.desk.specs.Desk.{listOf, listsOf, Counted, withRow, withoutRow, outWords, backWords, entryOf, blockBefore, block, withBlock, bookOf, seenOf, laid, latest, unlaid, sized, at0}
-use Rattle.desk.specs.Entries.{Entry, back, before}
+use Rattle.book.specs.Sizes.{COPIES}
+use Rattle.block.specs.Sizes.{BLOCK}
+use Rattle.desk.specs.Sizes.{ENTRY, DESK}
+use Rattle.book.specs.Book.{Record, Lists, Book, seen, list, withList, width, fieldsNumber, nameNumber, okLists, valid, change, addNumber, retireNumber, spot, withRecord, withoutRecord}
+use Rattle.block.specs.Block.{listOf, listsOf, Counted, withRow, withoutRow, blockBefore}
+use Rattle.desk.specs.Desk.{outWords, backWords, entryOf, block, withBlock, bookOf, seenOf, laid, latest, unlaid, sized, at0}
+use Rattle.book.specs.Entries.{Entry, back, before}
 use Rattle.desk.specs.Calls.{Call, says, does, makes, retired, number, words}
 use Rattle.desk.specs.Calls.Call.{add, retire, undo}
-use Rattle.desk.specs.declared.Kind.{Kind}
-use Rattle.desk.proofs.Fields.{answer-0, record-long, record-of-0}
-use Rattle.desk.proofs.Blocks
+use Rattle.book.proofs.Fields.{answer-0, record-long, record-of-0}
+use Rattle.block.proofs.Blocks
+use Rattle.block.proofs.Lists
 use Rattle.desk.proofs.Valid
 use Rattle.desk.proofs.Whole.{depth-is}
 use Rattle.desk.proofs.Decode
-use Rattle.desk.proofs.Keeps
-use Rattle.desk.proofs.Entries
+use Rattle.desk.proofs.Words
+use Rattle.book.proofs.Keeps
+use Rattle.book.proofs.Entries
 
 -- ---- what a number 0 says
 pile-0 : (n : ℕ) → _≡_ {A = ℕ} (cond (eqb n 0) 7 0) 0 → 0 < n
@@ -45,7 +48,7 @@ keeps b undo v e = Keeps.valid-back b v
 -- ---- the words after a call that gets 0 stand for the book that it makes
 module _ (ws : List ℕ) (h : DESK ≤ length ws) (v : valid (bookOf ws) ≡ true) where
   cnt : Counted (block ws)
-  cnt = record { long = Decode.block-long ws h; few = Valid.few-all (block ws) (Valid.head-ok ws v) }
+  cnt = record { long = Decode.block-long ws h; few = Lists.few-all (block ws) (Valid.head-ok ws v) }
 
   pub latest-there : says undo (seenOf ws) ≡ 0 → (0 < getD ws 0 0) × (okLists (before (entryOf (latest ws)) (listsOf (block ws))) ≡ true)
   latest-there e =
@@ -70,27 +73,27 @@ module _ (ws : List ℕ) (h : DESK ≤ length ws) (v : valid (bookOf ws) ≡ tru
       let p = answer-0 (valid (bookOf ws)) (fieldsNumber k r) (addNumber k (listsOf (block ws)) (key r)) e in
       let hw = record-long k r (record-of-0 k r (p .1)) in
       let room = Blocks.room-0 k (block ws) (Blocks.room-of k (block ws) (key r) _ refl (p .2)) in
-      by-block (outWords k) (withRow k r (block ws)) (withRecord k r (listsOf (block ws))) (Decode.long-out k) (Decode.counted-with k (block ws) cnt r hw room .long)
-      (Decode.lists-with k (block ws) cnt r hw room)
-      (ap (λ (t : Entry). before t (withRecord k r (listsOf (block ws)))) (Decode.entry-out k) ∙ Entries.before-added k r (listsOf (block ws)))
+      by-block (outWords k) (withRow k r (block ws)) (withRecord k r (listsOf (block ws))) (Words.long-out k) (Lists.counted-with k (block ws) cnt r hw room .long)
+      (Lists.lists-with k (block ws) cnt r hw room)
+      (ap (λ (t : Entry). before t (withRecord k r (listsOf (block ws)))) (Words.entry-out k) ∙ Entries.before-added k r (listsOf (block ws)))
   stands-for (retire k name) e =
       let p = answer-0 (valid (bookOf ws)) (nameNumber k name) (retireNumber k (listsOf (block ws)) name) e in
       let i : ℕ = spot k (listsOf (block ws)) name in
       let hi = Blocks.spot-in k (block ws) name _ refl (p .2) in
       let l : Lists = listsOf (block ws) in
       let r : Record = getD (listOf k (block ws)) i [] in
-      let hr : length r ≡ width k = Decode.row-full k (block ws) cnt i hi in
-      let il : i < length (list k l) = omega (arith, hi, ap length (Decode.list-is k (block ws)), Blocks.length-list k (block ws)) in
-      by-block (backWords k i r) (withoutRow k i (block ws)) (withList k (without i (list k l)) l) (Decode.long-back k i r hr) (Decode.counted-without k (block ws) cnt i hi .long)
-      (Decode.lists-without k (block ws) cnt i hi)
-      (ap (λ (t : Entry). before t (withList k (without i (list k l)) l)) (Decode.entry-back k i r hr)
-      ∙ ap (λ (t : List Record). before (back k i (getD t i [])) (withList k (without i (list k l)) l)) (sym (Decode.list-is k (block ws)))
+      let hr : length r ≡ width k = Lists.row-full k (block ws) cnt i hi in
+      let il : i < length (list k l) = omega (arith, hi, ap length (Lists.list-is k (block ws)), Blocks.length-list k (block ws)) in
+      by-block (backWords k i r) (withoutRow k i (block ws)) (withList k (without i (list k l)) l) (Words.long-back k i r hr) (Lists.counted-without k (block ws) cnt i hi .long)
+      (Lists.lists-without k (block ws) cnt i hi)
+      (ap (λ (t : Entry). before t (withList k (without i (list k l)) l)) (Words.entry-back k i r hr)
+      ∙ ap (λ (t : List Record). before (back k i (getD t i [])) (withList k (without i (list k l)) l)) (sym (Lists.list-is k (block ws)))
       ∙ Entries.before-retired k i l il)
   stands-for undo e =
       let u = latest-there e in
       let d : ℕ = getD ws 0 0 - 1 in
       let ed : getD ws 0 0 ≡ suc d = omega (arith, u .0) in
-      let q = Decode.before-block (block ws) (Decode.block-long ws h) (Valid.head-ok ws v) (entryOf (latest ws)) (u .1) in (
+      let q = Lists.before-block (block ws) (Decode.block-long ws h) (Valid.head-ok ws v) (entryOf (latest ws)) (u .1) in (
         Decode.length-with (unlaid ws) (rw (Decode.length-unlaid ws h) h) (blockBefore (entryOf (latest ws)) (block ws)) (q .0) ∙ Decode.length-unlaid ws h,
         Decode.book-undone ws h d ed (omega (arith, shallow)) (blockBefore (entryOf (latest ws)) (block ws)) (q .0) (q .1),
       )
@@ -114,18 +117,18 @@ unfolding bookOf retired
 rest-done ws h (add k r) e =
     let p = answer-0 (valid (bookOf ws)) (fieldsNumber k r) (addNumber k (listsOf (block ws)) (key r)) e in
     let room = Blocks.room-0 k (block ws) (Blocks.room-of k (block ws) (key r) _ refl (p .2)) in
-    Decode.rest-with ws h (outWords k) (Decode.long-out k) (withRow k r (block ws)) (Decode.counted-with k (block ws) (cnt ws h (p .0)) r (record-long k r (record-of-0 k r (p .1))) room .long)
+    Decode.rest-with ws h (outWords k) (Words.long-out k) (withRow k r (block ws)) (Lists.counted-with k (block ws) (cnt ws h (p .0)) r (record-long k r (record-of-0 k r (p .1))) room .long)
 rest-done ws h (retire k name) e =
     let p = answer-0 (valid (bookOf ws)) (nameNumber k name) (retireNumber k (listsOf (block ws)) name) e in
     let i : ℕ = spot k (listsOf (block ws)) name in
     let hi = Blocks.spot-in k (block ws) name _ refl (p .2) in
     let c = cnt ws h (p .0) in
     let r : Record = getD (listOf k (block ws)) i [] in
-    Decode.rest-with ws h (backWords k i r) (Decode.long-back k i r (Decode.row-full k (block ws) c i hi)) (withoutRow k i (block ws)) (Decode.counted-without k (block ws) c i hi .long)
+    Decode.rest-with ws h (backWords k i r) (Words.long-back k i r (Lists.row-full k (block ws) c i hi)) (withoutRow k i (block ws)) (Lists.counted-without k (block ws) c i hi .long)
 rest-done ws h undo e =
     let v = answer-0 (valid (bookOf ws)) 0 (cond (eqb (length (bookOf ws .pile)) 0) 7 0) e .0 in
     let u = latest-there ws h v e in
-    Decode.rest-unlaid ws h (blockBefore (entryOf (latest ws)) (block ws)) (Decode.before-block (block ws) (Decode.block-long ws h) (Valid.head-ok ws v) (entryOf (latest ws)) (u .1) .0)
+    Decode.rest-unlaid ws h (blockBefore (entryOf (latest ws)) (block ws)) (Lists.before-block (block ws) (Decode.block-long ws h) (Valid.head-ok ws v) (entryOf (latest ws)) (u .1) .0)
 
 -- a desk longer than its size keeps the rest
 pub rest : (c : Call) (ws : List ℕ) → drop DESK (words c ws) ≡ drop DESK ws

@@ -1,11 +1,6 @@
-pub mod Fields
-pub mod Blocks
-pub mod Keeps
-pub mod Entries
+pub mod Words
 pub mod Decode
-pub mod Taken
 pub mod Valid
 pub mod Whole
 pub mod Changes
 pub mod Longer
-pub mod Builds

@@ -10,12 +10,15 @@ use lib.ListN.{length, getD, take, drop, length-append, length-drop, length-take
 use lib.Seq.{drop-append-le, take-append-le, length-take-le}
 use lib.Dec.{leb}
 use borrow.Author.Tests.{leb-true, leb-false, le-leb}
-use Rattle.rows.specs.Rows.{part, rows}
+use Rattle.rows.specs.Rows.{part}
 use Rattle.rows.proofs.Rows.{rows-prefix}
-use Rattle.desk.specs.Sizes.{COPIES, BLOCK, NEXT, ENTRY, DESK}
-use Rattle.desk.specs.Book.{Lists, Book, Seen, seen, valid}
-use Rattle.desk.specs.Desk.{Sound, block, listsOf, entriesOf, bookOf, seenOf}
-use Rattle.desk.proofs.Keeps.{shallow}
+use Rattle.book.specs.Sizes.{COPIES}
+use Rattle.block.specs.Sizes.{BLOCK}
+use Rattle.desk.specs.Sizes.{NEXT, ENTRY, DESK}
+use Rattle.book.specs.Book.{Seen, seen, valid}
+use Rattle.desk.specs.Desk.{Sound, block, entriesOf, bookOf, seenOf}
+use Rattle.block.specs.Block.{listsOf}
+use Rattle.book.proofs.Keeps.{shallow}
 use Rattle.desk.proofs.Whole.{depth-is}
 
 -- a part of the first words

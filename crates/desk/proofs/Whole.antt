@@ -10,18 +10,22 @@ use lib.Dec.{eqb, leb}
 use lib.IntN.{ℤ}
 use borrow.Author.Tests.{leb-true, le-leb, lt-leb, eq-eqb, ne-eqb, not-true, not-false}
 use Rattle.fixed.specs.Up.{up}
-use Rattle.rows.specs.Rows.{pasted, part, withPart, key, count}
+use Rattle.rows.specs.Rows.{pasted, part, withPart, count}
 use Rattle.rows.proofs.Rows
-use Rattle.desk.specs.Sizes.{COPIES, BLOCK, DESK, NEXT, ENTRY, LATER}
-use Rattle.desk.specs.Book.{Record, Lists, width, fieldsNumber, addNumber, retireNumber, spot, roomNumber, answer, takeNumber, okLists, valid}
-use Rattle.desk.specs.Entries.{before}
-use Rattle.desk.specs.Desk.{Sound, listOf, listsOf, bookOf, block, withBlock, withRow, taken, withoutRow, start, tag, KINDS, entryOf, outWords, backWords, blockBefore, latest, at0, sized, laid, unlaid, Counted, area}
-use Rattle.desk.specs.declared.Kind.{Kind}
+use Rattle.book.specs.Sizes.{COPIES}
+use Rattle.block.specs.Sizes.{BLOCK}
+use Rattle.desk.specs.Sizes.{DESK, NEXT, ENTRY, LATER}
+use Rattle.book.specs.Book.{Record, width, spot, roomNumber, answer, takeNumber, leaveNumber, okLists, valid}
+use Rattle.book.specs.Entries.{before}
+use Rattle.desk.specs.Desk.{Sound, bookOf, block, withBlock, taken, at0, sized, laid, latest, unlaid, tag, KINDS, entryOf, outWords, backWords}
+use Rattle.block.specs.Block.{Counted, start, area, listOf, listsOf, withRow, withoutRow, blockBefore}
+use Rattle.book.specs.declared.Kind.{Kind}
 use Rattle.desk.specs.Calls.{Call, number, words, retired, boxRecord, pointRecord, netRecord}
-use Rattle.desk.proofs.Fields.{answer-f, answer-n}
+use Rattle.block.proofs.Lists
 use Rattle.desk.proofs.Valid
-use Rattle.desk.proofs.Blocks
+use Rattle.block.proofs.Blocks
 use Rattle.desk.proofs.Decode
+use Rattle.desk.proofs.Words
 
 -- ---- numbers: n is what the definition says, r what the code returns
 pub kept : (r : ℕ) (after ws : List ℕ) → (r ≡ 0 → ⊥) → ws ≡ at0 r after ws
@@ -33,15 +37,6 @@ unfolding at0
 changed-at r after ws ws′ h e = rw h e
 
 -- ---- a record added without a copy
-module _ (k : Kind) (r : Record) (l : Lists) (f : ℕ) (ef : f ≡ fieldsNumber k r) where
-  pub take-f : (f ≡ 0 → ⊥) → f ≡ takeNumber k r l
-  unfolding takeNumber
-  take-f h = sym (ap (λ (m : ℕ). answer true m (addNumber k l (key r))) (sym ef) ∙ answer-f f (addNumber k l (key r)) h)
-
-  pub take-n : (n : ℕ) → f ≡ 0 → n ≡ addNumber k l (getD r 0 0) → n ≡ takeNumber k r l
-  unfolding takeNumber key
-  take-n n h e = e ∙ sym (answer-n (fieldsNumber k r) (addNumber k l (key r)) (sym ef ∙ h))
-
 pub put-back : (k : Kind) (r : Record) (ws ys : List ℕ) → ys ≡ withRow k r (block ws) → take 1 ws ++ (ys ++ drop BLOCK (drop 1 ws)) ≡ taken k r ws
 unfolding taken withBlock withPart
 put-back k r ws ys e = rw e
@@ -78,7 +73,7 @@ module _ (ws : List ℕ) where
   unfolding sized answer
   test-0 h v e t = rw (le-leb DESK (length ws) h, ← e, not-false v t)
 
--- ---- the answers of a call on the desk: d is the desk's test, g the fields' number, a the lists'; `after` are the words of a change
+-- ---- the answers of a call on the desk: d is the desk's test, a the number on a sound desk; `after` are the words of a change
 module _ (ws : List ℕ) (d : ℕ) (ed : d ≡ sized ws (answer (valid (bookOf ws)) 0 0)) where
   -- a refusal of the test comes before all others, and only a sound desk passes
   by : (f n : ℕ) → ((d ≡ 0 → ⊥) → d ≡ sized ws (answer (valid (bookOf ws)) f n)) × (d ≡ 0 → Sound ws)
@@ -113,26 +108,19 @@ module _ (ws : List ℕ) (d : ℕ) (ed : d ≡ sized ws (answer (valid (bookOf w
     pub says-d : (d ≡ 0 → ⊥) → (d ≡ it) × (ws ≡ at0 it after ws)
     says-d h = both d (by f n .0 h) h
 
-    module _ (z : d ≡ 0) (g : ℕ) (eg : g ≡ f) where
-      sound : it ≡ answer true f n
+    module _ (z : d ≡ 0) (a : ℕ) (ea : a ≡ answer true f n) where
+      passes : it ≡ a
       unfolding sized
-      sound = rw (le-leb DESK (length ws) (sound-at z .long), sound-at z .book)
+      passes = rw (le-leb DESK (length ws) (sound-at z .long), sound-at z .book) (sym ea)
 
-      pub says-f : (g ≡ 0 → ⊥) → (g ≡ it) × (ws ≡ at0 it after ws)
-      says-f hg = both g (eg ∙ sym (sound ∙ answer-f f n (λ y. hg (eg ∙ y)))) hg
+      pub says-n : (a ≡ 0 → ⊥) → (a ≡ it) × (ws ≡ at0 it after ws)
+      says-n ha = both a (sym passes) ha
 
-      module _ (zg : g ≡ 0) (a : ℕ) (ea : a ≡ n) where
-        passes : it ≡ n
-        passes = sound ∙ answer-n f n (sym eg ∙ zg)
-
-        pub says-n : (a ≡ 0 → ⊥) → (a ≡ it) × (ws ≡ at0 it after ws)
-        says-n ha = both a (ea ∙ sym passes) ha
-
-        pub says-0 : a ≡ 0 → (w : List ℕ) → w ≡ after → (0 ≡ it) × (w ≡ at0 it after ws)
-        unfolding at0
-        says-0 ha w ew =
-            let e : 0 ≡ it = sym ha ∙ ea ∙ sym passes in
-            (e, rw (← e) ew)
+      pub says-0 : a ≡ 0 → (w : List ℕ) → w ≡ after → (0 ≡ it) × (w ≡ at0 it after ws)
+      unfolding at0
+      says-0 ha w ew =
+          let e : 0 ≡ it = sym ha ∙ sym passes in
+          (e, rw (← e) ew)
 
 -- ---- a sound desk's block now
 module _ (ws : List ℕ) (s : Sound ws) where
@@ -140,13 +128,13 @@ module _ (ws : List ℕ) (s : Sound ws) where
   lists-fit = Valid.head-ok ws (s .book)
 
   pub counted : Counted (block ws)
-  counted = record { long = Decode.block-long ws (s .long); few = Valid.few-all (block ws) lists-fit }
+  counted = record { long = Decode.block-long ws (s .long); few = Lists.few-all (block ws) lists-fit }
 
   pub latest-fits : (getD ws 0 0 ≡ 0 → ⊥) → okLists (before (entryOf (latest ws)) (listsOf (block ws))) ≡ true
   latest-fits z = Valid.latest-ok ws (s .long) (s .book) z
 
-  pub spot-here : (k : Kind) (name n i : ℕ) → n ≡ retireNumber k (listsOf (block ws)) name → n ≡ 0 → i ≡ spot k (listsOf (block ws)) name → i < count (area k (block ws))
-  spot-here k name n i e z ei = rw ei (Blocks.spot-in k (block ws) name n e z)
+  pub spot-here : (k : Kind) (name n i : ℕ) → n ≡ leaveNumber k name (listsOf (block ws)) → n ≡ 0 → i ≡ spot k (listsOf (block ws)) name → i < count (area k (block ws))
+  spot-here k name n i e z ei = rw ei (Blocks.leave-spot k (block ws) name n e z)
 
   -- l are the words with the entry e laid: the block is as it was
   module _ (e l : List ℕ) (he : length e ≡ ENTRY) (el : l ≡ laid e ws) where
@@ -160,15 +148,15 @@ module _ (ws : List ℕ) (s : Sound ws) where
     unfolding withBlock withPart
     changed F ys ey = rw (ey, carried, el)
 
-    pub room-laid : (k : Kind) (id n : ℕ) → n ≡ addNumber k (listsOf (block ws)) id → n ≡ 0 → roomNumber k (listOf k (block l)) ≡ 0
-    room-laid k id n q z = rw carried (Blocks.room-of k (block ws) id n q z)
+    pub room-laid : (k : Kind) (r : Record) (n : ℕ) → n ≡ takeNumber k r (listsOf (block ws)) → n ≡ 0 → roomNumber k (listOf k (block l)) ≡ 0
+    room-laid k r n q z = rw carried (Blocks.take-room k (block ws) r n q z)
 
     pub spot-laid : (k : Kind) (i : ℕ) → i < count (area k (block ws)) → i < count (area k (block l))
     spot-laid k i hi = rw carried hi
 
   -- the entry of a retirement is whole
   pub long-retired : (k : Kind) (i : ℕ) → i < count (area k (block ws)) → length (backWords k i (getD (listOf k (block ws)) i [])) ≡ ENTRY
-  long-retired k i hi = Decode.long-back k i _ (Decode.row-full k (block ws) counted i hi)
+  long-retired k i hi = Words.long-back k i _ (Lists.row-full k (block ws) counted i hi)
 
 pub retired-at : (ws : List ℕ) (k : Kind) (i j : ℕ) (w : List ℕ) → i ≡ j
     → w ≡ withBlock (withoutRow k i (block ws)) (laid (backWords k i (getD (listOf k (block ws)) i [])) ws) → w ≡ retired k j ws
@@ -216,7 +204,7 @@ module _ (ws : List ℕ) (h : DESK ≤ length ws) (cnt : Counted (block ws)) (k 
   row-room = rw (ew, es) (omega (arith, Blocks.row-inside k (block ws) cnt i hi))
 
   pub row-narrow : 2 + w ≤ ENTRY
-  row-narrow = rw ew (omega (arith, Decode.narrow k))
+  row-narrow = rw ew (omega (arith, Words.narrow k))
 
   module _ (n : ℕ) (en : n ≡ 2 + s + i * w + w - (2 + s + i * w)) where
     pub row-taken : take n (drop (2 + s + i * w) ws) ≡ getD (listOf k (block ws)) i []
@@ -235,7 +223,7 @@ module _ (ws : List ℕ) (h : DESK ≤ length ws) (cnt : Counted (block ws)) (k 
         ∙ sym (Blocks.row-words k (block ws) cnt i hi))
 
     pub row-fits : length (take n (drop (2 + s + i * w) ws)) ≡ width k
-    row-fits = ap length row-taken ∙ Decode.row-full k (block ws) cnt i hi
+    row-fits = ap length row-taken ∙ Lists.row-full k (block ws) cnt i hi
 
     pub laid-back : (t p : ℕ) (e l : List ℕ) → t ≡ tag k → p ≡ i
         → e ≡ pasted (set (set (replicate ENTRY 0) 0 (KINDS + t)) 1 p) 2 (take n (drop (2 + s + i * w) ws)) (length (take n (drop (2 + s + i * w) ws)))

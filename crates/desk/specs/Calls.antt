@@ -7,9 +7,10 @@ use lib.IntN.{ℤ}
 use lib.Dec.{eqb}
 use Rattle.fixed.specs.Up.{up}
 use Rattle.rows.specs.Rows.{key}
-use Rattle.desk.specs.Book.{Record, Book, Seen, answer, fieldsNumber, nameNumber, addNumber, retireNumber, spot, withRecord, withoutRecord, change, back}
-use Rattle.desk.specs.Desk.{seenOf, listOf, listsOf, block, withBlock, withRow, withoutRow, outWords, backWords, entryOf, blockBefore, laid, latest, unlaid, sized, at0}
-use Rattle.desk.specs.declared.Kind.{Kind}
+use Rattle.book.specs.Book.{Record, Book, Seen, answer, fieldsNumber, nameNumber, addNumber, retireNumber, spot, withRecord, withoutRecord, change, back}
+use Rattle.desk.specs.Desk.{seenOf, block, withBlock, outWords, backWords, entryOf, laid, latest, unlaid, sized, at0}
+use Rattle.block.specs.Block.{listOf, listsOf, withRow, withoutRow, blockBefore}
+use Rattle.book.specs.declared.Kind.{Kind}
 
 -- a record is its fields; a box or net is named by its id, a port or end by its place
 pub data Call : Type 0 where

@@ -1,60 +1,19 @@
 -- 01, 'Desk and page text': how the words of a lent slice stand for a book, and what words a change leaves.
--- Words: the pile's depth, then the block of the lists now, then 32 undo entries, the latest first. A block: an area for each kind.
+-- Words: the pile's depth, then the block of the lists now, then 32 undo entries, the latest first.
 use mathlib.Core.Path.{_≡_}
-use mathlib.Core.List.{List, [], _∷_, map}
-use mathlib.Core.Bool.{Bool, true, cond, _&&_}
+use mathlib.Core.List.{List, map}
+use mathlib.Core.Bool.{true, cond}
 use Prim.Native.Nat.{ℕ, _+_, _-_, _*_, _≤_, min}
 use lib.ListN.{length, getD, take, drop, set, replicate}
 use lib.Dec.{eqb, leb, ltb}
-use Rattle.rows.specs.Rows.{pasted, part, withPart, rows, records, key, isIn, count, putLast, takeOut, putIn}
-use Rattle.desk.specs.Sizes.{COPIES, BOX-AREA, PORT-AREA, NET-AREA, END-AREA, PORTS-AT, NETS-AT, ENDS-AT, BLOCK, NEXT, ENTRY, LATER, DESK}
-use Rattle.desk.specs.Book.{Record, Lists, Book, valid, Seen, seen, width, most, okRecord}
-use Rattle.desk.specs.Entries.{Entry, out, back, none, copies}
-use Rattle.desk.specs.declared.Kind.{Kind}
-
--- ---- a block
--- where a kind's area begins, and its words
-abbrev pub start : Kind → ℕ
-start Kind.Box = 0
-start Kind.Port = PORTS-AT
-start Kind.Net = NETS-AT
-start Kind.End = ENDS-AT
-
-abbrev pub size : Kind → ℕ
-size Kind.Box = BOX-AREA
-size Kind.Port = PORT-AREA
-size Kind.Net = NET-AREA
-size Kind.End = END-AREA
-
-unfoldable pub area : Kind → List ℕ → List ℕ
-area k blk = part (start k) (size k) blk
-
-unfoldable pub listOf : Kind → List ℕ → List Record
-listOf k blk = records (width k) (count (area k blk)) (area k blk)
-
-unfoldable pub listsOf : List ℕ → Lists
-listsOf blk =
-    record { boxes = listOf Kind.Box blk; ports = listOf Kind.Port blk; nets = listOf Kind.Net blk; ends = listOf Kind.End blk }
-
--- a record belongs to one of those whose ids these are
-unfoldable pub listed : Kind → List ℕ → Record → List Record → Bool
-listed k is r rs = okRecord k r && isIn (key r) is
-
--- a block whose counts keep the limits
-pub record Counted (blk : List ℕ) : Type 0 where
-  pub long : length blk ≡ BLOCK
-  pub few : (k : Kind) → count (area k blk) ≤ most k
-
--- the block with a row put last in the area of its kind, and with row i out
-unfoldable pub withRow : Kind → Record → List ℕ → List ℕ
-withRow k r blk = withPart (start k) (size k) (putLast (width k) r (area k blk)) blk
-
-unfoldable pub withoutRow : Kind → ℕ → List ℕ → List ℕ
-withoutRow k i blk = withPart (start k) (size k) (takeOut (width k) i (area k blk)) blk
-
--- and with a row put in at place i
-unfoldable pub withRowAt : Kind → ℕ → Record → List ℕ → List ℕ
-withRowAt k i r blk = withPart (start k) (size k) (putIn (width k) i r (area k blk)) blk
+use Rattle.rows.specs.Rows.{pasted, part, withPart, rows}
+use Rattle.book.specs.Sizes.{COPIES}
+use Rattle.block.specs.Sizes.{PORTS-AT, NETS-AT, ENDS-AT, BLOCK}
+use Rattle.desk.specs.Sizes.{NEXT, ENTRY, LATER, DESK}
+use Rattle.book.specs.Book.{Record, Book, valid, Seen, seen, width}
+use Rattle.book.specs.Entries.{Entry, out, back, none, copies}
+use Rattle.block.specs.Block.{listsOf, Counted, withRow}
+use Rattle.book.specs.declared.Kind.{Kind}
 
 -- ---- an entry: 0 to 3 the last record of that kind goes, 4 to 7 a record comes back; its place; its row
 abbrev pub tag : Kind → ℕ
@@ -82,12 +41,6 @@ outWords k = set (replicate ENTRY 0) 0 (tag k)
 
 unfoldable pub backWords : Kind → ℕ → Record → List ℕ
 backWords k i r = pasted (set (set (replicate ENTRY 0) 0 (KINDS + tag k)) 1 i) 2 r (width k)
-
--- the block before the change that an entry undoes
-unfoldable pub blockBefore : Entry → List ℕ → List ℕ
-blockBefore (out k) blk = withoutRow k (count (area k blk) - 1) blk
-blockBefore (back k i r) blk = withRowAt k i r blk
-blockBefore none blk = blk
 
 -- ---- the desk
 unfoldable pub block : List ℕ → List ℕ

@@ -1,5 +1,3 @@
 pub mod Sizes
-pub mod Book
-pub mod Entries
 pub mod Desk
 pub mod Calls

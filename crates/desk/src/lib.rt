@@ -1,251 +1,33 @@
 // A desk: boxes, ports, nets and ends in a lent slice of words, with a pile of up to 32 undo entries.
+use book::Kind;
 ghost use mathlib.Core.Path.{_≡_};
-ghost use mathlib.Core.Bool.{Bool, true, not, _&&_};
-ghost use mathlib.Core.List.{List, [], map};
-ghost use Prim.Native.Nat.{ℕ, _+_, _*_, _≤_, _<_};
-ghost use lib.ListN.{length, getD, take, drop, set};
-ghost use lib.Dec.{eqb};
-ghost use Rattle.rows.specs.Rows.{isIn, ids, key, keys, count, scan, place, records as records-of, rows as rows-of};
-ghost use Rattle.desk.specs.Sizes.{COPIES, BOX, PORT, NET, END, BLOCK, NEXT, ENTRY, PILE, DESK};
-ghost use Rattle.desk.specs.Book.{okId, okPlace, okFields, okRecord, list, width as width-of, most as most-of, ranged as ranged-of, fieldsNumber, nameNumber, addNumber, newNumber, knownNumber, roomNumber, takeNumber, own, belongs, okOwners, okMembers, okLists, okCopy, valid, idNumber, placeNumber, retireNumber, spot as spot-of, answer};
-ghost use Rattle.desk.specs.Desk.{start, size as size-of, area, listOf, listsOf, listed, Counted, withRow, withRowAt, tag as tag-of, kindOf, entryOf, outWords, backWords, blockBefore, block, withBlock, Ready, Sound, taken, emptied, at0, withoutRow, laid, latest, unlaid, bookOf, seenOf, sized};
-ghost use Rattle.desk.specs.Entries.{before, copies, out, back, isHeld};
+ghost use mathlib.Core.Bool.{true};
+ghost use mathlib.Core.List.{[], map};
+ghost use Prim.Native.Nat.{_+_, _*_, _≤_, _<_};
+ghost use lib.ListN.{length, getD};
+ghost use Rattle.rows.specs.Rows.{count, scan, rows as rows-of};
+ghost use Rattle.book.specs.declared.Kind.{Kind};
+ghost use Rattle.book.specs.Sizes.{COPIES};
+ghost use Rattle.block.specs.Sizes.{BLOCK};
+ghost use Rattle.desk.specs.Sizes.{NEXT, ENTRY, PILE, DESK};
+ghost use Rattle.book.specs.Book.{width as width-of, okLists, okCopy, valid, takeNumber, answer};
+ghost use Rattle.block.specs.Block.{area, listOf, listsOf, Counted, blockBefore};
+ghost use Rattle.desk.specs.Desk.{block, Ready, Sound, taken, emptied, at0, laid, unlaid, bookOf, seenOf, sized};
+ghost use Rattle.desk.specs.Desk.{tag as tag-of, kindOf, entryOf, outWords, backWords};
+ghost use Rattle.book.specs.Entries.{before, copies};
 ghost use Rattle.desk.specs.Calls.{Call, does, number, words, boxRecord, pointRecord, netRecord};
 
-pub const IDS: u32 = 65535;
+pub const NEXT: usize = 1 + block::BLOCK;
 
-pub const COPIES: u32 = 32;
+pub const ENTRY: usize = 2 + book::BOX;
 
-pub const BOX: usize = 5;
-
-pub const PORT: usize = 4;
-
-pub const NET: usize = 1;
-
-pub const END: usize = 4;
-
-pub const BOXES: usize = 64;
-
-pub const PORTS: usize = 256;
-
-pub const NETS: usize = 64;
-
-pub const ENDS: usize = 256;
-
-// The most records of a list of any kind.
-const MOST: usize = PORTS;
-
-pub const BOX_AREA: usize = 1 + BOXES * BOX;
-
-pub const PORT_AREA: usize = 1 + PORTS * PORT;
-
-pub const NET_AREA: usize = 1 + NETS * NET;
-
-pub const END_AREA: usize = 1 + ENDS * END;
-
-pub const PORTS_AT: usize = BOX_AREA;
-
-pub const NETS_AT: usize = PORTS_AT + PORT_AREA;
-
-pub const ENDS_AT: usize = NETS_AT + NET_AREA;
-
-pub const BLOCK: usize = ENDS_AT + END_AREA;
-
-pub const NEXT: usize = 1 + BLOCK;
-
-pub const ENTRY: usize = 2 + BOX;
-
-pub const PILE: usize = 32 * ENTRY;
+pub const PILE: usize = book::COPIES as usize * ENTRY;
 
 pub const LATER: usize = PILE - ENTRY;
 
 const KINDS: u32 = 4;
 
 pub const DESK: usize = NEXT + PILE;
-
-pub enum Kind {
-    Box,
-    Port,
-    Net,
-    End,
-}
-
-// The words of a row.
-pub fn width(kind: Kind) -> usize
-    ensures { λ r. ⌜ r ≡ width-of kind ⌝ }
-{
-    match kind {
-        Kind::Box => BOX,
-        Kind::Port => PORT,
-        Kind::Net => NET,
-        Kind::End => END,
-    }
-}
-
-// The most records of a kind.
-pub fn most(kind: Kind) -> usize
-    ensures { λ r. ⌜ r ≡ most-of kind ⌝ }
-{
-    match kind {
-        Kind::Box => BOXES,
-        Kind::Port => PORTS,
-        Kind::Net => NETS,
-        Kind::End => ENDS,
-    }
-}
-
-// Where a kind's area begins in a block.
-pub fn area_at(kind: Kind) -> usize
-    ensures { λ r. ⌜ r ≡ start kind ⌝ }
-{
-    match kind {
-        Kind::Box => 0,
-        Kind::Port => PORTS_AT,
-        Kind::Net => NETS_AT,
-        Kind::End => ENDS_AT,
-    }
-}
-
-// The words of a kind's area.
-pub fn size(kind: Kind) -> usize
-    ensures { λ r. ⌜ r ≡ size-of kind ⌝ }
-{
-    match kind {
-        Kind::Box => BOX_AREA,
-        Kind::Port => PORT_AREA,
-        Kind::Net => NET_AREA,
-        Kind::End => END_AREA,
-    }
-}
-
-fn ok_id(id: u32) -> bool
-    ensures { λ r. ⌜ r ≡ okId id ⌝ }
-{
-    (1 <= id) & (id <= IDS)
-}
-
-fn ok_place(x: u32, y: u32) -> bool
-    ensures { λ r. ⌜ r ≡ okPlace x y ⌝ }
-{
-    ((fixed::LEAST <= x) & (x <= fixed::GREATEST)) & ((fixed::LEAST <= y) & (y <= fixed::GREATEST))
-}
-
-fn ok_box(row: &[u32]) -> bool
-    requires { ⌜ length (now row) ≡ BOX ⌝ }
-    ensures { λ r. ⌜ r ≡ okFields Kind.Box (now (row .entry)) ⌝ }
-{
-    let fields = ok_id(row[0]) & (ok_place(row[1], row[2]) & ok_place(row[3], row[4]));
-    fields & ((row[1] <= row[3]) & (row[2] <= row[4]))
-}
-
-fn ok_point(row: &[u32]) -> bool
-    requires { ⌜ length (now row) ≡ PORT ⌝ }
-    ensures { λ r. ⌜ r ≡ okId (getD (now (row .entry)) 0 0) && okPlace (getD (now (row .entry)) 1 0) (getD (now (row .entry)) 2 0) ⌝ }
-{
-    ok_id(row[0]) & ok_place(row[1], row[2])
-}
-
-// 2 where a field is out of range.
-fn ranged(ok: bool) -> u32
-    ensures { λ r. ⌜ r ≡ ranged-of ok ⌝ }
-{
-    if ok { 0 } else { 2 }
-}
-
-// The number of a record's fields.
-fn fields_number(kind: Kind, row: &[u32]) -> u32
-    requires { ⌜ length (now row) ≡ width-of kind ⌝ }
-    ensures { λ r. ⌜ r ≡ fieldsNumber kind (now (row .entry)) ⌝ }
-{
-    match kind {
-        Kind::Box => ranged(ok_box(row)),
-        Kind::Port => ranged(ok_point(row) & (row[3] <= 15)),
-        Kind::Net => ranged(ok_id(row[0])),
-        Kind::End => ranged(ok_point(row) & (row[3] <= 1)),
-    }
-}
-
-// Whether a desk may hold a record.
-fn ok_record(kind: Kind, row: &[u32]) -> bool
-    requires { ⌜ length (now row) ≡ width-of kind ⌝ }
-    ensures { λ r. ⌜ r ≡ okRecord kind (now (row .entry)) ⌝ }
-{
-    fields_number(kind, row) == 0
-}
-
-// Whether a record of that kind with that first field is in the block.
-fn holds(blk: &[u32], kind: Kind, id: u32) -> bool
-    requires { ⌜ Counted (now blk) ⌝ }
-    ensures { λ r. ⌜ r ≡ isIn id (ids (listOf kind (now (blk .entry)))) ⌝ }
-{
-    let a = area_at(kind);
-    rows::holds(&blk[a..a + size(kind)], width(kind), id)
-}
-
-// The records of that kind in the block.
-fn records(blk: &[u32], kind: Kind) -> usize
-    requires { ⌜ length (now blk) ≡ BLOCK ⌝ }
-    ensures { λ r. ⌜ r ≡ count (area kind (now (blk .entry))) ⌝ }
-{
-    rows::wide(blk[area_at(kind)])
-}
-
-// 6 where the list of that kind is full.
-fn room_number(blk: &[u32], kind: Kind) -> u32
-    requires { ⌜ Counted (now blk) ⌝ }
-    ensures { λ r. ⌜ r ≡ roomNumber kind (listOf kind (now (blk .entry))) ⌝ }
-{
-    if records(blk, kind) < most(kind) {
-        0
-    } else {
-        6
-    }
-}
-
-// The number of a new box or net.
-fn new_number(blk: &[u32], kind: Kind, id: u32) -> u32
-    requires { ⌜ Counted (now blk) ⌝ }
-    ensures { λ r. ⌜ r ≡ newNumber kind (listOf kind (now (blk .entry))) id ⌝ }
-{
-    if holds(blk, kind, id) {
-        return 3;
-    }
-    room_number(blk, kind)
-}
-
-// The number of a new record of a box or net.
-fn known_number(blk: &[u32], owner: Kind, kind: Kind, id: u32) -> u32
-    requires { ⌜ Counted (now blk) ⌝ }
-    ensures { λ r. ⌜ r ≡ knownNumber kind (listOf owner (now (blk .entry))) (listOf kind (now (blk .entry))) id ⌝ }
-{
-    if holds(blk, owner, id) {
-        return room_number(blk, kind);
-    }
-    4
-}
-
-// The number of an addition on a block, past the ranges of its fields.
-fn add_number(blk: &[u32], kind: Kind, id: u32) -> u32
-    requires { ⌜ Counted (now blk) ⌝ }
-    ensures { λ r. ⌜ r ≡ addNumber kind (listsOf (now (blk .entry))) id ⌝ }
-{
-    match kind {
-        Kind::Box => new_number(blk, Kind::Box, id),
-        Kind::Port => known_number(blk, Kind::Box, Kind::Port, id),
-        Kind::Net => new_number(blk, Kind::Net, id),
-        Kind::End => known_number(blk, Kind::Net, Kind::End, id),
-    }
-}
-
-// Puts a row last in the area of its kind.
-fn put_record(blk: &mut [u32], kind: Kind, row: &[u32])
-    requires { ⌜ Counted (now blk) ⌝ }
-    requires { ⌜ (length (now row) ≡ width-of kind) × (roomNumber kind (listOf kind (now blk)) ≡ 0) ⌝ }
-    ensures { λ _. ⌜ now (blk .exit) ≡ withRow kind (now (row .entry)) (now (blk .entry)) ⌝ }
-{
-    let a = area_at(kind);
-    rows::append(&mut blk[a..a + size(kind)], row);
-}
 
 // Adds a record without an undo entry, as reading a text does.
 pub fn take_record(desk: &mut [u32], kind: Kind, row: &[u32]) -> u32
@@ -254,15 +36,11 @@ pub fn take_record(desk: &mut [u32], kind: Kind, row: &[u32]) -> u32
     ensures { λ r. ⌜ r ≡ takeNumber kind (now (row .entry)) (listsOf (block (now (desk .entry)))) ⌝ }
     ensures { λ r. ⌜ now (desk .exit) ≡ at0 r (taken kind (now (row .entry)) (now (desk .entry))) (now (desk .entry)) ⌝ }
 {
-    let fields = fields_number(kind, row);
-    if fields != 0 {
-        return fields;
-    }
-    let number = add_number(&desk[1..NEXT], kind, row[0]);
+    let number = block::take_number(&desk[1..NEXT], kind, row);
     if number != 0 {
         return number;
     }
-    put_record(&mut desk[1..NEXT], kind, row);
+    block::put_record(&mut desk[1..NEXT], kind, row);
     0
 }
 
@@ -273,141 +51,9 @@ pub fn empty(desk: &mut [u32])
 {
     desk[0] = 0;
     desk[1] = 0;
-    desk[1 + PORTS_AT] = 0;
-    desk[1 + NETS_AT] = 0;
-    desk[1 + ENDS_AT] = 0;
-}
-
-// Whether row i keeps its ranges and no later row has its id, where the ids are the rows' own.
-fn own_fits(part: &[u32], kind: Kind, n: usize, i: usize, ids: &[u32]) -> bool
-    requires { ⌜ (i < n) × (1 + n * width-of kind ≤ length (now part)) × (now ids ≡ keys (width-of kind) n (now part)) ⌝ }
-    ensures { λ r. ⌜ r ≡ own kind (take (width-of kind) (drop (1 + i * width-of kind) (now (part .entry)))) (drop (i + 1) (records-of (width-of kind) n (now (part .entry)))) ⌝ }
-{
-    let w = width(kind);
-    let a = 1 + i * w;
-    if !ok_record(kind, &part[a..a + w]) {
-        return false;
-    }
-    !rows::among(&ids[i + 1..], part[a])
-}
-
-// Whether all n rows fit so.
-fn each_owns(part: &[u32], kind: Kind, n: usize, ids: &[u32]) -> bool
-    requires { ⌜ (1 + n * width-of kind ≤ length (now part)) × (now ids ≡ keys (width-of kind) n (now part)) ⌝ }
-    ensures { λ r. ⌜ r ≡ scan (own kind) (records-of (width-of kind) n (now (part .entry))) ⌝ }
-{
-    let mut i = 0;
-    while i < n {
-        if !own_fits(part, kind, n, i, ids) {
-            return false;
-        }
-        i += 1;
-    }
-    true
-}
-
-// Whether row i keeps its ranges and its first word is among the ids.
-fn member_fits(part: &[u32], kind: Kind, n: usize, i: usize, ids: &[u32]) -> bool
-    requires { ⌜ (i < n) × (1 + n * width-of kind ≤ length (now part)) ⌝ }
-    ensures { λ r. ⌜ r ≡ listed kind (now (ids .entry)) (take (width-of kind) (drop (1 + i * width-of kind) (now (part .entry)))) (drop (i + 1) (records-of (width-of kind) n (now (part .entry)))) ⌝ }
-{
-    let w = width(kind);
-    let a = 1 + i * w;
-    if !ok_record(kind, &part[a..a + w]) {
-        return false;
-    }
-    rows::among(ids, part[a])
-}
-
-// Whether all n rows fit so.
-fn each_listed(part: &[u32], kind: Kind, n: usize, ids: &[u32]) -> bool
-    requires { ⌜ 1 + n * width-of kind ≤ length (now part) ⌝ }
-    ensures { λ r. ⌜ r ≡ scan (listed kind (now (ids .entry))) (records-of (width-of kind) n (now (part .entry))) ⌝ }
-{
-    let mut i = 0;
-    while i < n {
-        if !member_fits(part, kind, n, i, ids) {
-            return false;
-        }
-        i += 1;
-    }
-    true
-}
-
-// Whether the rows fit and have distinct ids. The ids are gathered first: side by side they are searched faster.
-fn all_own(part: &[u32], kind: Kind, n: usize) -> bool
-    requires { ⌜ (n ≤ most-of kind) × (1 + n * width-of kind ≤ length (now part)) ⌝ }
-    ensures { λ r. ⌜ r ≡ scan (own kind) (records-of (width-of kind) n (now (part .entry))) ⌝ }
-{
-    let mut ids: [u32; MOST] = [0; MOST];
-    rows::gather(part, width(kind), n, &mut ids);
-    each_owns(part, kind, n, &ids[..n])
-}
-
-// Whether the rows fit and what they belong to is among the owners, whose ids are gathered first.
-fn all_belong(part: &[u32], kind: Kind, n: usize, owners: &[u32], owner: Kind) -> bool
-    requires { ⌜ (1 + n * width-of kind ≤ length (now part)) × (count (now owners) ≤ most-of owner) × (1 + count (now owners) * width-of owner ≤ length (now owners)) ⌝ }
-    ensures { λ r. ⌜ r ≡ scan (belongs kind (records-of (width-of owner) (count (now (owners .entry))) (now (owners .entry)))) (records-of (width-of kind) n (now (part .entry))) ⌝ }
-{
-    let m = rows::wide(owners[0]);
-    let mut ids: [u32; MOST] = [0; MOST];
-    rows::gather(owners, width(owner), m, &mut ids);
-    each_listed(part, kind, n, &ids[..m])
-}
-
-// Whether the boxes or nets fit.
-fn ok_owners(blk: &[u32], kind: Kind) -> bool
-    requires { ⌜ length (now blk) ≡ BLOCK ⌝ }
-    ensures { λ r. ⌜ r ≡ okOwners kind (listOf kind (now (blk .entry))) ⌝ }
-{
-    let n = records(blk, kind);
-    if most(kind) < n {
-        return false;
-    }
-    let a = area_at(kind);
-    all_own(&blk[a..a + size(kind)], kind, n)
-}
-
-// Whether the ports or ends fit, where the boxes or nets keep their limit.
-fn ok_members(blk: &[u32], owner: Kind, kind: Kind) -> bool
-    requires { ⌜ (length (now blk) ≡ BLOCK) × (count (area owner (now blk)) ≤ most-of owner) ⌝ }
-    ensures { λ r. ⌜ r ≡ okMembers kind (listOf owner (now (blk .entry))) (listOf kind (now (blk .entry))) ⌝ }
-{
-    let n = records(blk, kind);
-    if most(kind) < n {
-        return false;
-    }
-    let a = area_at(kind);
-    let b = area_at(owner);
-    all_belong(
-        &blk[a..a + size(kind)],
-        kind,
-        n,
-        &blk[b..b + size(owner)],
-        owner,
-    )
-}
-
-// Whether the boxes and ports, or the nets and ends, fit.
-fn ok_pair(blk: &[u32], owner: Kind, kind: Kind) -> bool
-    requires { ⌜ length (now blk) ≡ BLOCK ⌝ }
-    ensures { λ r. ⌜ r ≡ okOwners owner (listOf owner (now (blk .entry))) && okMembers kind (listOf owner (now (blk .entry))) (listOf kind (now (blk .entry))) ⌝ }
-{
-    if !ok_owners(blk, owner) {
-        return false;
-    }
-    ok_members(blk, owner, kind)
-}
-
-// Whether a block is a valid set of lists.
-fn ok_block(blk: &[u32]) -> bool
-    requires { ⌜ length (now blk) ≡ BLOCK ⌝ }
-    ensures { λ r. ⌜ r ≡ okLists (listsOf (now (blk .entry))) ⌝ }
-{
-    if !ok_pair(blk, Kind::Box, Kind::Port) {
-        return false;
-    }
-    ok_pair(blk, Kind::Net, Kind::End)
+    desk[1 + block::PORTS_AT] = 0;
+    desk[1 + block::NETS_AT] = 0;
+    desk[1 + block::ENDS_AT] = 0;
 }
 
 // Lays an entry on the pile.
@@ -418,10 +64,10 @@ fn lay(desk: &mut [u32], entry: &[u32])
     let depth = desk[0];
     rows::move_up(desk, NEXT, NEXT + ENTRY, LATER);
     rows::put(desk, NEXT, entry);
-    if depth < COPIES {
+    if depth < book::COPIES {
         desk[0] = depth + 1;
     } else {
-        desk[0] = COPIES;
+        desk[0] = book::COPIES;
     }
 }
 
@@ -433,90 +79,6 @@ fn unlay(desk: &mut [u32])
     let depth = desk[0];
     rows::move_down(desk, NEXT, NEXT + ENTRY, LATER);
     desk[0] = depth - 1;
-}
-
-// The number of a retirement by id.
-fn id_number(blk: &[u32], owner: Kind, kind: Kind, id: u32) -> u32
-    requires { ⌜ Counted (now blk) ⌝ }
-    ensures { λ r. ⌜ r ≡ idNumber (listOf owner (now (blk .entry))) (listOf kind (now (blk .entry))) id ⌝ }
-{
-    if !holds(blk, owner, id) {
-        return 4;
-    }
-    if holds(blk, kind, id) {
-        return 5;
-    }
-    0
-}
-
-// The number of a retirement by place.
-fn place_number(blk: &[u32], kind: Kind, at: u32) -> u32
-    requires { ⌜ Counted (now blk) ⌝ }
-    ensures { λ r. ⌜ r ≡ placeNumber (listOf kind (now (blk .entry))) at ⌝ }
-{
-    if rows::wide(at) < records(blk, kind) {
-        0
-    } else {
-        4
-    }
-}
-
-// The number of a retirement on a block, past the range of an id.
-fn retire_number(blk: &[u32], kind: Kind, name: u32) -> u32
-    requires { ⌜ Counted (now blk) ⌝ }
-    ensures { λ r. ⌜ r ≡ retireNumber kind (listsOf (now (blk .entry))) name ⌝ }
-{
-    match kind {
-        Kind::Box => id_number(blk, Kind::Box, Kind::Port, name),
-        Kind::Port => place_number(blk, Kind::Port, name),
-        Kind::Net => id_number(blk, Kind::Net, Kind::End, name),
-        Kind::End => place_number(blk, Kind::End, name),
-    }
-}
-
-// The place of the record with that id.
-fn place_of(blk: &[u32], kind: Kind, id: u32) -> usize
-    requires { ⌜ Counted (now blk) ⌝ }
-    ensures { λ r. ⌜ r ≡ place id (ids (listOf kind (now (blk .entry)))) ⌝ }
-{
-    let n = records(blk, kind);
-    let a = area_at(kind);
-    rows::find(&blk[a..a + size(kind)], width(kind), 0, n, id)
-}
-
-// The place of the record that is named so: a box or net by its id, a port or end by its place.
-fn spot(blk: &[u32], kind: Kind, name: u32) -> usize
-    requires { ⌜ Counted (now blk) ⌝ }
-    ensures { λ r. ⌜ r ≡ spot-of kind (listsOf (now (blk .entry))) name ⌝ }
-{
-    match kind {
-        Kind::Box => place_of(blk, Kind::Box, name),
-        Kind::Port => rows::wide(name),
-        Kind::Net => place_of(blk, Kind::Net, name),
-        Kind::End => rows::wide(name),
-    }
-}
-
-// Takes row i out of the area of its kind.
-fn cut_record(blk: &mut [u32], kind: Kind, i: usize)
-    requires { ⌜ Counted (now blk) ⌝ }
-    requires { ⌜ i < count (area kind (now blk)) ⌝ }
-    ensures { λ _. ⌜ now (blk .exit) ≡ withoutRow kind i (now (blk .entry)) ⌝ }
-{
-    let a = area_at(kind);
-    rows::remove(&mut blk[a..a + size(kind)], width(kind), i);
-}
-
-// The number of a name's field: an id is one, a place is none.
-fn name_number(kind: Kind, name: u32) -> u32
-    ensures { λ r. ⌜ r ≡ nameNumber kind name ⌝ }
-{
-    match kind {
-        Kind::Box => ranged(ok_id(name)),
-        Kind::Port => 0,
-        Kind::Net => ranged(ok_id(name)),
-        Kind::End => 0,
-    }
 }
 
 // What an entry says first of a kind.
@@ -546,76 +108,6 @@ fn kind_of(n: u32) -> Kind
     Kind::End
 }
 
-// Puts a row in at place i of the area of its kind.
-fn insert_record(blk: &mut [u32], kind: Kind, i: usize, row: &[u32])
-    requires { ⌜ Counted (now blk) ⌝ }
-    requires { ⌜ (length (now row) ≡ width-of kind) × (roomNumber kind (listOf kind (now blk)) ≡ 0) × (i ≤ count (area kind (now blk))) ⌝ }
-    ensures { λ _. ⌜ now (blk .exit) ≡ withRowAt kind i (now (row .entry)) (now (blk .entry)) ⌝ }
-{
-    let a = area_at(kind);
-    rows::insert(&mut blk[a..a + size(kind)], i, row);
-}
-
-// The first word of row i.
-fn id_at(blk: &[u32], kind: Kind, i: usize) -> u32
-    requires { ⌜ Counted (now blk) ⌝ }
-    requires { ⌜ i < count (area kind (now blk)) ⌝ }
-    ensures { λ r. ⌜ r ≡ key (getD (listOf kind (now (blk .entry))) i []) ⌝ }
-{
-    blk[area_at(kind) + (1 + i * width(kind))]
-}
-
-// Whether a record belongs to the one at place i.
-fn is_held(blk: &[u32], kind: Kind, i: usize) -> bool
-    requires { ⌜ Counted (now blk) ⌝ }
-    requires { ⌜ i < count (area kind (now blk)) ⌝ }
-    ensures { λ r. ⌜ r ≡ isHeld kind (listsOf (now (blk .entry))) i ⌝ }
-{
-    match kind {
-        Kind::Box => holds(blk, Kind::Port, id_at(blk, Kind::Box, i)),
-        Kind::Port => false,
-        Kind::Net => holds(blk, Kind::End, id_at(blk, Kind::Net, i)),
-        Kind::End => false,
-    }
-}
-
-// Undoes an addition: takes the last record of a kind out, if there is one and nothing belongs to it.
-fn take_out(blk: &mut [u32], kind: Kind) -> bool
-    requires { ⌜ (length (now blk) ≡ BLOCK) × (okLists (listsOf (now blk)) ≡ true) ⌝ }
-    ensures { λ r. ⌜ r ≡ okLists (before (out kind) (listsOf (now (blk .entry)))) ⌝ }
-    ensures { λ r. ⌜ (r ≡ true → now (blk .exit) ≡ blockBefore (out kind) (now (blk .entry))) ⌝ }
-{
-    let n = records(blk, kind);
-    if n == 0 {
-        return false;
-    }
-    if is_held(blk, kind, n - 1) {
-        return false;
-    }
-    cut_record(blk, kind, n - 1);
-    true
-}
-
-// Undoes a retirement: puts a record in at place i, if it could be added and the place is there.
-fn put_back(blk: &mut [u32], kind: Kind, i: usize, row: &[u32]) -> bool
-    requires { ⌜ (length (now blk) ≡ BLOCK) × (okLists (listsOf (now blk)) ≡ true) × (length (now row) ≡ width-of kind) ⌝ }
-    ensures { λ r. ⌜ r ≡ okLists (before (back kind i (now (row .entry))) (listsOf (now (blk .entry)))) ⌝ }
-    ensures { λ r. ⌜ (r ≡ true → now (blk .exit) ≡ blockBefore (back kind i (now (row .entry))) (now (blk .entry))) ⌝ }
-{
-    let n = records(blk, kind);
-    if n < i {
-        return false;
-    }
-    if !ok_record(kind, row) {
-        return false;
-    }
-    if add_number(blk, kind, row[0]) != 0 {
-        return false;
-    }
-    insert_record(blk, kind, i, row);
-    true
-}
-
 // Undoes a change, if the entry applies and leaves a valid set of lists.
 fn take_entry(blk: &mut [u32], entry: &[u32]) -> bool
     requires { ⌜ (length (now blk) ≡ BLOCK) × (okLists (listsOf (now blk)) ≡ true) × (length (now entry) ≡ ENTRY) ⌝ }
@@ -624,11 +116,16 @@ fn take_entry(blk: &mut [u32], entry: &[u32]) -> bool
 {
     let word = entry[0];
     if word < KINDS {
-        return take_out(blk, kind_of(word));
+        return block::take_out(blk, kind_of(word));
     }
     if word < 2 * KINDS {
         let kind = kind_of(word - KINDS);
-        return put_back(blk, kind, rows::wide(entry[1]), &entry[2..2 + width(kind)]);
+        return block::put_back(
+            blk,
+            kind,
+            rows::wide(entry[1]),
+            &entry[2..2 + block::width(kind)],
+        );
     }
     false
 }
@@ -655,13 +152,13 @@ fn ok_desk(desk: &[u32]) -> bool
     ensures { λ r. ⌜ r ≡ valid (bookOf (now (desk .entry))) ⌝ }
 {
     let depth = rows::wide(desk[0]);
-    if rows::wide(COPIES) < depth {
+    if rows::wide(book::COPIES) < depth {
         return false;
     }
-    if !ok_block(&desk[1..NEXT]) {
+    if !block::ok_block(&desk[1..NEXT]) {
         return false;
     }
-    let mut blk: [u32; BLOCK] = [0; BLOCK];
+    let mut blk: [u32; block::BLOCK] = [0; block::BLOCK];
     rows::put(&mut blk, 0, &desk[1..NEXT]);
     ok_entries(&desk[NEXT..DESK], depth, &mut blk)
 }
@@ -699,8 +196,8 @@ fn lay_retired(desk: &mut [u32], kind: Kind, i: usize)
     let mut entry: [u32; ENTRY] = [0; ENTRY];
     entry[0] = KINDS + tag(kind);
     entry[1] = i as u32;
-    let w = width(kind);
-    let a = 2 + area_at(kind) + i * w;
+    let w = block::width(kind);
+    let a = 2 + block::area_at(kind) + i * w;
     rows::put(&mut entry, 2, &desk[a..a + w]);
     lay(desk, &entry);
 }
@@ -727,16 +224,12 @@ fn add(desk: &mut [u32], kind: Kind, row: &[u32]) -> u32
     if sound != 0 {
         return sound;
     }
-    let fields = fields_number(kind, row);
-    if fields != 0 {
-        return fields;
-    }
-    let number = add_number(&desk[1..NEXT], kind, row[0]);
+    let number = block::take_number(&desk[1..NEXT], kind, row);
     if number != 0 {
         return number;
     }
     lay_added(desk, kind);
-    put_record(&mut desk[1..NEXT], kind, row);
+    block::put_record(&mut desk[1..NEXT], kind, row);
     0
 }
 
@@ -749,17 +242,13 @@ fn retire(desk: &mut [u32], kind: Kind, name: u32) -> u32
     if sound != 0 {
         return sound;
     }
-    let fields = name_number(kind, name);
-    if fields != 0 {
-        return fields;
-    }
-    let number = retire_number(&desk[1..NEXT], kind, name);
+    let number = block::leave_number(&desk[1..NEXT], kind, name);
     if number != 0 {
         return number;
     }
-    let i = spot(&desk[1..NEXT], kind, name);
+    let i = block::spot(&desk[1..NEXT], kind, name);
     lay_retired(desk, kind, i);
-    cut_record(&mut desk[1..NEXT], kind, i);
+    block::cut_record(&mut desk[1..NEXT], kind, i);
     0
 }
 

@@ -16,9 +16,9 @@ use Rattle.page_graph.specs.Claims.{Placed}
 use Rattle.layout.specs.Answer.{layoutNumber as pageNumber}
 use Rattle.page_layout.specs.Drawing.{Drawing, drawing, laid}
 use Rattle.desk.specs.Sizes.{DESK}
-use Rattle.desk.specs.Book.{Lists, Seen, okLists, valid, ranged, answer}
+use Rattle.book.specs.Book.{Lists, Seen, okLists, valid, ranged, answer}
 use Rattle.desk.specs.Desk.{bookOf, seenOf, sized}
-use Rattle.desk.proofs.Keeps.{lists-ok}
+use Rattle.book.proofs.Keeps.{lists-ok}
 use Rattle.desk.proofs.Whole.{sound-at, unsound-at}
 use Rattle.select.specs.Page.{flat, pageOf}
 use Rattle.select.proofs.Ok.{few-nets, few-ends}

@@ -16,7 +16,7 @@ use Rattle.page_graph.specs.Page.{crowded}
 use Rattle.layout.specs.Layout.{page, blank}
 use Rattle.layout.specs.Answer.{layoutPage, layoutNumber as pageNumber}
 use Rattle.page_layout.specs.Drawing.{Drawing, drawing, lists-of, bare, laid}
-use Rattle.desk.specs.Book.{Lists}
+use Rattle.book.specs.Book.{Lists}
 use Rattle.select.specs.Page.{pageOf}
 use Rattle.desk_layout.specs.Layout.{Choice, isPruned, isApart, layoutNumber, zeros, left}
 

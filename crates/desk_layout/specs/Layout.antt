@@ -9,8 +9,9 @@ use Rattle.vertex.specs.Pages.{VERTICES}
 use Rattle.layout.specs.Layout.{NET-ROW}
 use Rattle.layout.specs.Answer.{layoutNumber as pageNumber}
 use Rattle.page_layout.specs.Drawing.{Drawing, laid}
-use Rattle.desk.specs.Sizes.{DESK, NETS}
-use Rattle.desk.specs.Book.{Lists, Seen, ranged, answer}
+use Rattle.desk.specs.Sizes.{DESK}
+use Rattle.book.specs.Sizes.{NETS}
+use Rattle.book.specs.Book.{Lists, Seen, ranged, answer}
 use Rattle.desk.specs.Desk.{seenOf}
 use Rattle.select.specs.Page.{pageOf}
 

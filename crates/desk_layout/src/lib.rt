@@ -5,7 +5,7 @@ ghost use Prim.Native.Nat.{ℕ, _≤_};
 ghost use lib.Dec.{leb};
 ghost use lib.ListN.{length};
 ghost use Rattle.desk.specs.Sizes.{DESK};
-ghost use Rattle.desk.specs.Book.{valid};
+ghost use Rattle.book.specs.Book.{valid};
 ghost use Rattle.desk.specs.Desk.{bookOf, seenOf};
 ghost use Rattle.page_layout.specs.Drawing.{drawing};
 ghost use Rattle.desk_layout.specs.Layout.{choice, okChoice, layoutNumber, zeros, left, tested, deskNumber, deskDrawing};
@@ -59,14 +59,14 @@ fn layout_valid(
     ensures { λ r. ⌜ r ≡ layoutNumber (bookOf (now (desk .entry)) .lists) ⌝ }
     ensures { λ r. ⌜ drawing (now (nets .exit)) (now (x .exit)) (now (y .exit)) (now (kinds .exit)) (now (joins .exit)) ≡ left r (bookOf (now (desk .entry)) .lists) (choice prune separate) (drawing (now (nets .entry)) (now (x .entry)) (now (y .entry)) (now (kinds .entry)) (now (joins .entry))) ⌝ }
 {
-    let nb = select::count_of(desk, desk::Kind::Box);
-    let np = select::count_of(desk, desk::Kind::Port);
-    let nn = select::count_of(desk, desk::Kind::Net);
-    let ne = select::count_of(desk, desk::Kind::End);
-    let boxes = select::rows_of(desk, desk::Kind::Box);
-    let ports = select::rows_of(desk, desk::Kind::Port);
-    let ids = select::rows_of(desk, desk::Kind::Net);
-    let ends = select::rows_of(desk, desk::Kind::End);
+    let nb = select::count_of(desk, book::Kind::Box);
+    let np = select::count_of(desk, book::Kind::Port);
+    let nn = select::count_of(desk, book::Kind::Net);
+    let ne = select::count_of(desk, book::Kind::End);
+    let boxes = select::rows_of(desk, book::Kind::Box);
+    let ports = select::rows_of(desk, book::Kind::Port);
+    let ids = select::rows_of(desk, book::Kind::Net);
+    let ends = select::rows_of(desk, book::Kind::End);
     page_layout::lay_out_page(
         boxes,
         nb,

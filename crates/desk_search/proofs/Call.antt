@@ -21,9 +21,9 @@ use Rattle.page_search.specs.Page.{PageSearched, searchNumber as pageNumber, se
 use Rattle.page_search.specs.Exists.{Sound, PageTold}
 use Rattle.page_search.proofs.Theorem.{page-searches}
 use Rattle.desk.specs.Sizes.{DESK}
-use Rattle.desk.specs.Book.{Lists, Seen, okLists, okPlace, valid, ranged, answer}
+use Rattle.book.specs.Book.{Lists, Seen, okLists, okPlace, valid, ranged, answer}
 use Rattle.desk.specs.Desk.{bookOf, seenOf, sized}
-use Rattle.desk.proofs.Keeps.{lists-ok}
+use Rattle.book.proofs.Keeps.{lists-ok}
 use Rattle.desk.proofs.Whole.{sound-at, unsound-at}
 use Rattle.select.specs.Page.{flat, pageOf}
 use Rattle.select.proofs.Asked.{asked, page-is}

@@ -11,10 +11,10 @@ use Rattle.page_graph.specs.Page.{crowded, page-graph}
 use Rattle.page_search.specs.Page.{searchNumber as pageNumber}
 use Rattle.page_search.specs.Exists.{Sound, Owned, Holds as PageHolds, port as page-port, unported}
 use Rattle.page_search.proofs.Theorem.{page-line-exists}
-use Rattle.desk.specs.Book.{Lists, Book, okLists, seen, valid, ranged, answer}
+use Rattle.book.specs.Book.{Lists, Book, okLists, seen, valid, ranged, answer}
 use Rattle.desk.specs.Desk.{bookOf, seenOf}
-use Rattle.desk.specs.declared.Kind.{Kind}
-use Rattle.desk.proofs.Keeps.{lists-ok}
+use Rattle.book.specs.declared.Kind.{Kind}
+use Rattle.book.proofs.Keeps.{lists-ok}
 use Rattle.select.specs.Page.{pageOf}
 use Rattle.select.proofs.Listed.{word-at}
 use Rattle.select.proofs.Asked.{asked}

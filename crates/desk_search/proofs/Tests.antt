@@ -14,7 +14,7 @@ use Rattle.fixed.specs.Up.{ups}
 use Rattle.fixed.proofs.Lists.{length-ups}
 use Rattle.rows.specs.Rows.{scan}
 use Rattle.rows.proofs.Rows.{pass, fail, done}
-use Rattle.desk.specs.Book.{okPlace}
+use Rattle.book.specs.Book.{okPlace}
 use Rattle.desk_search.specs.Query.{ENDS, okStep, okEnds, okQuery, query}
 
 module _ (us : List ℤ) (i : ℕ) (so-far : scan okStep (ups us) ≡ scan okStep (drop i (ups us))) where

@@ -8,7 +8,7 @@ use lib.ListN.{length, getD}
 use Rattle.nodes.specs.Graph.{Graph}
 use Rattle.line_exists.specs.Exists.{Joined}
 use Rattle.page_graph.specs.Page.{page-graph}
-use Rattle.desk.specs.Book.{Lists, field}
+use Rattle.book.specs.Book.{Lists, field}
 use Rattle.desk.specs.Desk.{bookOf}
 use Rattle.select.specs.Page.{pageOf}
 use Rattle.desk_search.specs.Query.{Query}

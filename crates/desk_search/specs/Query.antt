@@ -8,7 +8,7 @@ use lib.ListN.{length}
 use Rattle.fixed.specs.Constants.{LEAST, GREATEST}
 use Rattle.fixed.specs.Up.{ups}
 use Rattle.rows.specs.Rows.{scan}
-use Rattle.desk.specs.Book.{okPlace}
+use Rattle.book.specs.Book.{okPlace}
 
 -- prune is 1 for the pruned graph, 0 for the unpruned one; a start, and ends
 pub record Query : Type 0 where

@@ -12,7 +12,7 @@ use Rattle.path_finding.specs.Line.{table, place-at, kind-at, direction-at}
 use Rattle.page_graph.specs.Page.{page-graph}
 use Rattle.page_search.specs.Page.{searchNumber as pageNumber, searchLine as pageLine}
 use Rattle.desk.specs.Sizes.{DESK}
-use Rattle.desk.specs.Book.{Lists, Seen, ranged, answer}
+use Rattle.book.specs.Book.{Lists, Seen, ranged, answer}
 use Rattle.desk.specs.Desk.{seenOf}
 use Rattle.select.specs.Page.{pageOf}
 use Rattle.desk_search.specs.Query.{Query, isPruned, okQuery}

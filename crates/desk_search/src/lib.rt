@@ -9,7 +9,7 @@ ghost use Rattle.fixed.specs.Up.{up, ups};
 ghost use Rattle.rows.specs.Rows.{scan};
 ghost use Rattle.nodes.specs.Graph.{NODES};
 ghost use Rattle.desk.specs.Sizes.{DESK};
-ghost use Rattle.desk.specs.Book.{valid};
+ghost use Rattle.book.specs.Book.{valid};
 ghost use Rattle.desk.specs.Desk.{bookOf, seenOf};
 ghost use Rattle.desk_search.specs.Query.{query, okStep, okEnds, okQuery};
 ghost use Rattle.desk_search.specs.Search.{outputs, zeros, searchNumber, left, tested, deskNumber, deskOutputs};
@@ -89,14 +89,14 @@ fn search_valid(
     ensures { λ r. ⌜ r ≡ searchNumber (bookOf (now (desk .entry)) .lists) (query prune x y (now (ex .entry)) (now (ey .entry))) ⌝ }
     ensures { λ r. ⌜ outputs (now (lx .exit)) (now (ly .exit)) (now (kinds .exit)) (now (dirs .exit)) ≡ left r (bookOf (now (desk .entry)) .lists) (query prune x y (now (ex .entry)) (now (ey .entry))) (outputs (now (lx .entry)) (now (ly .entry)) (now (kinds .entry)) (now (dirs .entry))) ⌝ }
 {
-    let nb = select::count_of(desk, desk::Kind::Box);
-    let np = select::count_of(desk, desk::Kind::Port);
-    let nn = select::count_of(desk, desk::Kind::Net);
-    let ne = select::count_of(desk, desk::Kind::End);
-    let boxes = select::rows_of(desk, desk::Kind::Box);
-    let ports = select::rows_of(desk, desk::Kind::Port);
-    let nets = select::rows_of(desk, desk::Kind::Net);
-    let ends = select::rows_of(desk, desk::Kind::End);
+    let nb = select::count_of(desk, book::Kind::Box);
+    let np = select::count_of(desk, book::Kind::Port);
+    let nn = select::count_of(desk, book::Kind::Net);
+    let ne = select::count_of(desk, book::Kind::End);
+    let boxes = select::rows_of(desk, book::Kind::Box);
+    let ports = select::rows_of(desk, book::Kind::Port);
+    let nets = select::rows_of(desk, book::Kind::Net);
+    let ends = select::rows_of(desk, book::Kind::End);
     let a = page_search::search_rows(
         boxes,
         nb,

@@ -16,7 +16,7 @@ use Rattle.decimals.proofs.Bools.{below}
 use Rattle.decimals.proofs.Digits.{plain-digits, value-digits}
 use Rattle.decimals.proofs.Clean.{clean, allClean, clean-append, clean-digits, clean-signed, clean-tabbed, digits-width, plain-signed, signed-width, split-part, split-tabbed, value-signed}
 use Rattle.page_line.specs.Fields.{allPlain, values, idWord, stepWord, smallWord, word, rowOf}
-use Rattle.desk.specs.declared.Kind.{Kind}
+use Rattle.book.specs.declared.Kind.{Kind}
 use Rattle.page_line.specs.Records.{Line, entry, name, sorts, kindOf, shape, recordOf, lineOf}
 use Rattle.page_line.specs.declared.Found.the-variants.{Of}
 use Rattle.page_line.specs.declared.Sort.{Sort}

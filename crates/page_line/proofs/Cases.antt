@@ -5,7 +5,7 @@ use mathlib.Core.List.{[], _∷_, _++_}
 use lib.ListN.{replicate}
 use Rattle.decimals.specs.Bytes.{LF, TAB, onto, split, same}
 use Rattle.decimals.specs.Decimal.{isDigit, digitsOnly, isEmpty, natural, reads, cap, amount, plain, value}
-use Rattle.desk.specs.declared.Kind.{Kind}
+use Rattle.book.specs.declared.Kind.{Kind}
 use Rattle.page_line.specs.Fields.{allPlain, values, idWord, stepWord, smallWord, word, rowOf}
 use Rattle.page_line.specs.Records.{entry, malformed, kindOf, shape, recordOf, lineOf}
 use Rattle.page_line.specs.Lines.{ended, linesOf, textLines}

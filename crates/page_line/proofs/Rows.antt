@@ -6,8 +6,8 @@ use native.Mathlib.Omega.{arith}
 use lib.ListN.{length, getD, set}
 use Rattle.decimals.specs.Write.{written}
 use Rattle.decimals.proofs.Written.{Copy, copy-on, copy-end, written-none}
-use Rattle.desk.specs.declared.Kind.{Kind}
-use Rattle.desk.specs.Book.{width}
+use Rattle.book.specs.declared.Kind.{Kind}
+use Rattle.book.specs.Book.{width}
 use Rattle.page_line.specs.Fields.{rowSort, word, rowOf}
 use Rattle.page_line.specs.Records.{ROW, sorts, sortAt}
 use Rattle.page_line.specs.declared.Sort.{Sort}

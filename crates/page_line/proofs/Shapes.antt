@@ -11,8 +11,8 @@ use lib.Seq.{take-all, drop-drop, take-suc-set}
 use borrow.Author.Tests.{eq-eqb, ltb-true, ltb-false, leb-true, leb-false, le-leb, lt-leb, ne-eqb}
 use Rattle.decimals.specs.Bytes.{TAB, split, place}
 use Rattle.decimals.specs.Decimal.{plain, numberOf}
-use Rattle.desk.specs.declared.Kind.{Kind}
-use Rattle.desk.specs.Book.{width}
+use Rattle.book.specs.declared.Kind.{Kind}
+use Rattle.book.specs.Book.{width}
 use Rattle.decimals.specs.Write.{written}
 use Rattle.decimals.proofs.Written.{written-none}
 use Rattle.page_line.specs.Fields.{MOST, allPlain, values, countFrom, rowOf}

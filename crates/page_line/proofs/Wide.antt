@@ -11,8 +11,8 @@ use borrow.Author.Tests.{eqb-true}
 use Rattle.decimals.specs.Bytes.{TAB, LF, split}
 use Rattle.decimals.specs.Decimal.{isEmpty}
 use Rattle.decimals.specs.Write.{written}
-use Rattle.desk.specs.declared.Kind.{Kind}
-use Rattle.desk.specs.Book.{width}
+use Rattle.book.specs.declared.Kind.{Kind}
+use Rattle.book.specs.Book.{width}
 use Rattle.page_line.specs.Fields.{allPlain, values, rowOf}
 use Rattle.page_line.specs.Records.{Line, entry, malformed, Told, kindIn, rowIn, kindOf, lineOf, recordOf, shape, sorts}
 use Rattle.page_line.specs.Lines.{LINE, ended, lineAt, linesOf, textLines}

@@ -7,7 +7,7 @@ use lib.ListN.{length, getD}
 use lib.Dec.{eqb}
 use Rattle.decimals.specs.Bytes.{TAB, split, same}
 use Rattle.decimals.specs.Write.{written}
-use Rattle.desk.specs.declared.Kind.{Kind}
+use Rattle.book.specs.declared.Kind.{Kind}
 use Rattle.page_line.specs.Fields.{allPlain, values, rowOf}
 use Rattle.page_line.specs.declared.Found.{Found}
 use Rattle.page_line.specs.declared.Found.the-variants.{Of, Malformed}

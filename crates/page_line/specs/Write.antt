@@ -3,7 +3,7 @@ use Prim.Native.Nat.{ℕ}
 use mathlib.Core.List.{List, [], _∷_, _++_}
 use Rattle.decimals.specs.Bytes.{LF}
 use Rattle.decimals.specs.Write.{digits, signed, tabbed}
-use Rattle.desk.specs.declared.Kind.{Kind}
+use Rattle.book.specs.declared.Kind.{Kind}
 use Rattle.page_line.specs.Records.{name, sorts}
 use Rattle.page_line.specs.declared.Sort.{Sort}
 use Rattle.page_line.specs.declared.Sort.the-variants.{Ident, Step, Small}

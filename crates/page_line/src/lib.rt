@@ -26,7 +26,7 @@ pub const LINE: usize = 64;
 
 // What a line was found to be: a record of a kind, or malformed.
 pub enum Found {
-    Of(desk::Kind),
+    Of(book::Kind),
     Malformed,
 }
 
@@ -125,20 +125,20 @@ fn row_sort(small: usize, i: usize) -> Sort
 }
 
 // The sort of a kind's field at a place.
-fn sort_of(kind: desk::Kind, i: usize) -> Sort
+fn sort_of(kind: book::Kind, i: usize) -> Sort
     requires { ⌜ i < length (sorts kind) ⌝ }
     ensures { λ r. ⌜ r ≡ sortAt kind i ⌝ }
 {
     match kind {
-        desk::Kind::Box => row_sort(5, i),
-        desk::Kind::Port => row_sort(3, i),
-        desk::Kind::Net => row_sort(1, i),
-        desk::Kind::End => row_sort(3, i),
+        book::Kind::Box => row_sort(5, i),
+        book::Kind::Port => row_sort(3, i),
+        book::Kind::Net => row_sort(1, i),
+        book::Kind::End => row_sort(3, i),
     }
 }
 
 // Writes the row of a record whose fields have these values.
-fn fill(kind: desk::Kind, vs: &[u64], row: &mut [u32])
+fn fill(kind: book::Kind, vs: &[u64], row: &mut [u32])
     requires { ⌜ (length (now vs) ≡ length (sorts kind)) × (ROW ≤ length (now row)) ⌝ }
     ensures { λ _. ⌜ now (row .exit) ≡ written (now (row .entry)) 0 (rowOf (sorts kind) (now (vs .entry))) ⌝ }
 {
@@ -154,16 +154,16 @@ fn kind_of(w: &[u8]) -> Found
     ensures { λ r. ⌜ r ≡ kindOf (now (w .entry)) ⌝ }
 {
     if decimals::same_bytes(w, b"box") {
-        return Found::Of(desk::Kind::Box);
+        return Found::Of(book::Kind::Box);
     }
     if decimals::same_bytes(w, b"port") {
-        return Found::Of(desk::Kind::Port);
+        return Found::Of(book::Kind::Port);
     }
     if decimals::same_bytes(w, b"net") {
-        return Found::Of(desk::Kind::Net);
+        return Found::Of(book::Kind::Net);
     }
     if decimals::same_bytes(w, b"end") {
-        return Found::Of(desk::Kind::End);
+        return Found::Of(book::Kind::End);
     }
     Found::Malformed
 }
@@ -176,7 +176,7 @@ fn shape_of(f: Found, vs: &[u64], row: &mut [u32]) -> Found
     let Found::Of(kind) = f else {
         return Found::Malformed;
     };
-    if vs.len() == desk::width(kind) {
+    if vs.len() == block::width(kind) {
         fill(kind, vs, row);
         return Found::Of(kind);
     }

@@ -44,7 +44,7 @@ use Rattle.layout_laws.specs.Counted as LayoutLawsCounted
 use Rattle.page_layout.specs.Drawing as PageLayoutDrawing
 use Rattle.page_layout.specs.Lent as PageLayoutLent
 use Rattle.rows.specs.Rows as RowsRows
-use Rattle.desk.specs.Book as DeskBook
+use Rattle.book.specs.Book as DeskBook
 use Rattle.select.specs.Page as SelectPage
 use Rattle.desk_layout.specs.Layout as DeskLayoutLayout
 use Rattle.decimals.specs.Bytes as DecimalsBytes

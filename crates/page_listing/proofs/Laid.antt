@@ -13,9 +13,9 @@ use Rattle.fixed.proofs.Lists.{length-ups}
 use Rattle.anchors.specs.Records.{Records}
 use Rattle.page_graph.specs.Page.{crowded}
 use Rattle.desk.specs.Sizes.{DESK}
-use Rattle.desk.specs.Book.{Lists, valid, ranged, answer}
+use Rattle.book.specs.Book.{Lists, valid, ranged, answer}
 use Rattle.desk.specs.Desk.{bookOf, seenOf}
-use Rattle.desk.proofs.Keeps.{lists-ok}
+use Rattle.book.proofs.Keeps.{lists-ok}
 use Rattle.select.specs.Page.{flat, pageOf}
 use Rattle.select.proofs.Ok.{few-nets}
 use Rattle.layout.specs.Answer.{layoutNumber as pageNumber}

@@ -6,7 +6,7 @@ use Prim.Native.Nat.{ℕ, _≤_}
 use borrow.Author.Tests.{le-leb, eq-eqb, ne-eqb}
 use lib.ListN.{length, getD}
 use Rattle.desk.specs.Sizes.{DESK}
-use Rattle.desk.specs.Book.{bookWith, Book, valid}
+use Rattle.book.specs.Book.{bookWith, Book, valid}
 use Rattle.desk.specs.Desk.{bookOf}
 use Rattle.page_text.specs.Reading.{readText}
 use Rattle.page_text.specs.Words.{REFUSAL, isLent, readNumber, readWords, readRefusal, told}

@@ -12,9 +12,9 @@ use Rattle.decimals.specs.Decimal.{BASE}
 use Rattle.wire.specs.Wires.{vertices}
 use Rattle.page_graph.specs.Page.{crowded}
 use Rattle.page_laws.proofs.Ranges.{blank-page}
-use Rattle.desk.specs.declared.Kind.{Kind}
-use Rattle.desk.proofs.Fields.{record-ranged}
-use Rattle.desk.specs.Book.{Record, Lists, okRecord, okLists}
+use Rattle.book.specs.declared.Kind.{Kind}
+use Rattle.book.proofs.Fields.{record-ranged}
+use Rattle.book.specs.Book.{Record, Lists, okRecord, okLists}
 use Rattle.select.specs.Page.{flat, pageOf}
 use Rattle.select.proofs.Listed.{words-low}
 use Rattle.select.proofs.Ok.{nets, few-nets}

@@ -6,7 +6,7 @@ use lib.Dec.{eqb}
 use lib.ListN.{length, replicate}
 use Rattle.fixed.specs.Up.{BIAS}
 use Rattle.page_graph.specs.Page.{crowded}
-use Rattle.desk.specs.Book.{Lists}
+use Rattle.book.specs.Book.{Lists}
 use Rattle.select.specs.Page.{flat, pageOf}
 use Rattle.page_text.specs.Reading.{Reading, readText}
 use Rattle.page_layout.specs.Drawing.{Drawing, laid}

@@ -5,7 +5,7 @@ ghost use Prim.Native.Nat.{_≤_};
 ghost use lib.Dec.{eqb};
 ghost use lib.ListN.{length, take};
 ghost use Rattle.desk.specs.Sizes.{DESK};
-ghost use Rattle.desk.specs.Book.{valid};
+ghost use Rattle.book.specs.Book.{valid};
 ghost use Rattle.desk.specs.Desk.{bookOf};
 ghost use Rattle.decimals.specs.Write.{Put};
 ghost use Rattle.listing.specs.Listing.{listing, First};
@@ -38,8 +38,8 @@ fn print_laid(
     ensures { λ r. ⌜ Put (now (out .entry)) 0 (listing (pageOn (bookOf (now (desk .entry)) .lists) (drawing (now (nets .entry)) (now (x .entry)) (now (y .entry)) (now (kinds .entry)) (now (joins .entry)))) (length (bookOf (now (desk .entry)) .lists .nets))) (now (out .exit)) r ⌝ }
     ensures { λ r. ⌜ First r (now (out .exit)) ⌝ }
 {
-    let n = select::count_of(desk, desk::Kind::Net);
-    let ids = select::rows_of(desk, desk::Kind::Net);
+    let n = select::count_of(desk, book::Kind::Net);
+    let ids = select::rows_of(desk, book::Kind::Net);
     listing::write_listing(out, nets, ids, x, y, kinds, joins, n)
 }
 

@@ -12,11 +12,11 @@ use Rattle.fixed.proofs.Bools.{and-left, and-right}
 use Rattle.decimals.specs.Bytes.{split}
 use Rattle.decimals.specs.Decimal.{BASE, isEmpty}
 use Rattle.rows.specs.Rows.{key}
-use Rattle.desk.specs.declared.Kind.{Kind}
-use Rattle.desk.specs.Sizes.{IDS}
-use Rattle.desk.specs.Book.{Record, Lists, width, okId, okPlace, field, okFields, fieldsNumber, okRecord, addNumber, takeNumber, withRecord, Item, items, inOrder}
-use Rattle.desk.proofs.Fields.{record-long, record-ranged, record-0, answer-n}
-use Rattle.desk.proofs.Builds.{Builds, none, one, builds}
+use Rattle.book.specs.declared.Kind.{Kind}
+use Rattle.book.specs.Sizes.{IDS}
+use Rattle.book.specs.Book.{Record, Lists, width, okId, okPlace, field, okFields, fieldsNumber, okRecord, addNumber, takeNumber, withRecord, Item, items, inOrder}
+use Rattle.book.proofs.Fields.{record-long, record-ranged, record-0, answer-n}
+use Rattle.book.proofs.Builds.{Builds, none, one, builds}
 use Rattle.page_line.specs.Records.{Line, entry}
 use Rattle.page_line.specs.Lines.{linesOf, textLines}
 use Rattle.page_line.specs.Write.{lineText}

@@ -6,7 +6,7 @@ use mathlib.Core.List.{List, [], _∷_, _++_}
 use Rattle.decimals.specs.Bytes.{onto, split, same}
 use Rattle.decimals.specs.Decimal.{isDigit, digitsOnly, isEmpty, natural, reads, cap, amount, plain, value}
 use Rattle.rows.specs.Rows.{key, isIn, place}
-use Rattle.desk.specs.Book.{Lists, noLists, okId, okPlace, okRecord, fieldsNumber, ranged, answer, takeNumber, newNumber, knownNumber, roomNumber, withRecord}
+use Rattle.book.specs.Book.{Lists, noLists, okId, okPlace, okRecord, fieldsNumber, ranged, answer, takeNumber, newNumber, knownNumber, roomNumber, withRecord}
 use Rattle.page_line.specs.Fields.{allPlain, values, idWord, stepWord, smallWord, word, rowOf}
 use Rattle.page_line.specs.Records.{kindOf, shape, recordOf, lineOf}
 use Rattle.page_line.specs.Lines.{ended, linesOf, textLines}

@@ -11,9 +11,9 @@ use borrow.Author.Tests.{ne-eqb, ltb-true, ltb-false}
 use Rattle.decimals.specs.Bytes.{LF, split, place}
 use Rattle.decimals.proofs.Split.{place-le}
 use Rattle.rows.proofs.Rows.{take-drop}
-use Rattle.desk.specs.declared.Kind.{Kind}
-use Rattle.desk.specs.Book.{Lists, noLists, okLists}
-use Rattle.desk.proofs.Keeps.{boxes-ok, nets-ok, ports-ok, ends-ok, owners-few, members-few}
+use Rattle.book.specs.declared.Kind.{Kind}
+use Rattle.book.specs.Book.{Lists, noLists, okLists}
+use Rattle.book.proofs.Keeps.{boxes-ok, nets-ok, ports-ok, ends-ok, owners-few, members-few}
 use Rattle.page_line.specs.Records.{Line, malformed}
 use Rattle.page_line.specs.Lines.{LINE, ended, lineAt, textLines}
 use Rattle.page_line.proofs.Lines.{at-none, at-long, line-first}

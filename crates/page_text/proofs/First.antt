@@ -5,7 +5,7 @@ use Prim.Native.Nat.{ℕ, suc, _+_, _<_}
 use mathlib.Core.Logic.{_⊎_, inl, inr, ⊎-elim}
 use native.Mathlib.Omega.{arith}
 use lib.ListN.{length}
-use Rattle.desk.specs.Book.{Lists, noLists}
+use Rattle.book.specs.Book.{Lists, noLists}
 use Rattle.page_line.specs.Records.{Line}
 use Rattle.page_line.specs.Lines.{textLines}
 use Rattle.page_text.specs.Reading.{takes, adds, Reading, accepted, refused, onward, feed, readText}

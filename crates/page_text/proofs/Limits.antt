@@ -7,11 +7,12 @@ use lib.ListN.{length}
 use lib.Dec.{eqb}
 use Rattle.rows.specs.Rows.{key, scan}
 use Rattle.desk.specs.Sizes.{DESK}
-use Rattle.desk.specs.Book.{Lists, noLists, bookWith, fieldsNumber, okLists, okOwners, okMembers, okCopy, valid, addNumber, takeNumber}
-use Rattle.desk.specs.Desk.{Ready, block, listsOf, emptied, taken, at0}
+use Rattle.book.specs.Book.{Lists, noLists, bookWith, fieldsNumber, okLists, okOwners, okMembers, okCopy, valid, addNumber, takeNumber}
+use Rattle.desk.specs.Desk.{Ready, block, emptied, taken, at0}
+use Rattle.block.specs.Block.{listsOf}
 use Rattle.desk.proofs.Decode.{length-emptied, ready-emptied}
-use Rattle.desk.proofs.Fields.{answer-0, record-of-0}
-use Rattle.desk.proofs.Keeps
+use Rattle.book.proofs.Fields.{answer-0, record-of-0}
+use Rattle.book.proofs.Keeps
 use Rattle.page_line.specs.Records.{Line, entry, malformed}
 use Rattle.page_line.specs.Lines.{textLines}
 use Rattle.page_line.proofs.Wide.{AllWide, wide-lines}

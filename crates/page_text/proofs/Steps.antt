@@ -3,9 +3,10 @@ use mathlib.Core.Path.{_≡_, refl}
 use mathlib.Core.List.{List}
 use Prim.Native.Nat.{ℕ}
 use borrow.Author.Tests.{eq-eqb, ne-eqb}
-use Rattle.desk.specs.declared.Kind.{Kind}
-use Rattle.desk.specs.Book.{takeNumber}
-use Rattle.desk.specs.Desk.{listsOf, block, taken, at0}
+use Rattle.book.specs.declared.Kind.{Kind}
+use Rattle.book.specs.Book.{takeNumber}
+use Rattle.block.specs.Block.{listsOf}
+use Rattle.desk.specs.Desk.{block, taken, at0}
 use Rattle.page_line.specs.Records.{Line, entry, malformed}
 use Rattle.page_text.specs.Reading.{stepOf, takes}
 use Rattle.page_text.specs.Words.{leaves}

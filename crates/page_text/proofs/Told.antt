@@ -12,7 +12,7 @@ use Rattle.decimals.specs.Write.{written}
 use Rattle.decimals.proofs.Bools.{and-false}
 use Rattle.decimals.proofs.Written.{Copy, copy-on, copy-end, written-none}
 use Rattle.desk.specs.Sizes.{DESK}
-use Rattle.desk.specs.Book.{noLists}
+use Rattle.book.specs.Book.{noLists}
 use Rattle.page_line.specs.Lines.{textLines}
 use Rattle.page_text.specs.Reading.{readText}
 use Rattle.page_text.specs.Words.{REFUSAL, told, isLent, readNumber, readRefusal, readWords, stopOf, textWords}

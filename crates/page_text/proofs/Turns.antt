@@ -9,13 +9,13 @@ use lib.Dec.{eqb}
 use borrow.Author.Tests.{eq-eqb, eqb-true}
 use Rattle.decimals.specs.Bytes.{LF, split, place}
 use Rattle.decimals.specs.Decimal.{isEmpty}
-use Rattle.rows.specs.Rows.{key, count}
-use Rattle.desk.specs.declared.Kind.{Kind}
+use Rattle.rows.specs.Rows.{count}
+use Rattle.book.specs.declared.Kind.{Kind}
 use Rattle.desk.specs.Sizes.{DESK}
-use Rattle.desk.specs.Book.{Record, Lists, noLists, bookWith, width, most, fieldsNumber, addNumber, takeNumber, withRecord}
-use Rattle.desk.specs.Desk.{Ready, area, at0, block, bookOf, emptied, listsOf, taken}
-use Rattle.desk.proofs.Fields.{answer-0}
-use Rattle.desk.proofs.Blocks.{length-list, room-0, room-of}
+use Rattle.book.specs.Book.{Record, Lists, bookWith, width, most, takeNumber, withRecord}
+use Rattle.desk.specs.Desk.{Ready, at0, block, bookOf, emptied, taken}
+use Rattle.block.specs.Block.{area, listsOf}
+use Rattle.block.proofs.Blocks.{length-list, room-0, take-room}
 use Rattle.desk.proofs.Decode.{Settled, book-settled, book-emptied, lists-emptied, settled-emptied, lists-taken, settled-taken, length-taken, ready-emptied, ready-taken}
 use Rattle.page_line.specs.Records.{Line, entry, malformed}
 use Rattle.page_line.specs.Lines.{lineAt, linesOf, textLines}
@@ -43,10 +43,7 @@ step-0 n e = go (eqb n 0) refl e
 -- its record has room in its list
 module _ (k : Kind) (r : Record) (ws : List ℕ) (e : takeNumber k r (listsOf (block ws)) ≡ 0) where
   has-room : count (area k (block ws)) < most k
-  unfolding takeNumber
-  has-room =
-      room-0 k (block ws)
-      (room-of k (block ws) (key r) (addNumber k (listsOf (block ws)) (key r)) refl (answer-0 true (fieldsNumber k r) (addNumber k (listsOf (block ws)) (key r)) e .2))
+  has-room = room-0 k (block ws) (take-room k (block ws) r _ refl e)
 
   is-taken : leaves (entry k r) ws ≡ taken k r ws
   unfolding leaves at0
@@ -70,9 +67,6 @@ pub after : (x : Line) (ws : List ℕ) → Ready ws → Wide x → takes x (list
 unfolding takes
 after (entry k r) ws ready hw e = after-taken k r ws ready hw (step-0 (takeNumber k r (listsOf (block ws))) e)
 after malformed ws ready hw e = bad-went 0 e
-
-lists-after : (x : Line) (ws ws′ : List ℕ) → After x ws ws′ → listsOf (block ws′) ≡ adds x (listsOf (block ws))
-lists-after x ws ws′ a = a .lists
 
 -- ---- how many records there are
 unfoldable pub total : Lists → ℕ
@@ -111,18 +105,15 @@ pub record Read (text start ws : List ℕ) (at n : ℕ) : Type 0 where
 pub lines-few : (text start ws : List ℕ) (at n : ℕ) → Read text start ws at n → n ≤ 640
 lines-few text start ws at n r = omega (arith, r .few, total-few ws (r .ready))
 
-empty-lists : (ws : List ℕ) → listsOf (block (emptied ws)) ≡ noLists
-empty-lists ws = lists-emptied ws
-
 pub read-first : (text given start : List ℕ) → DESK ≤ length given → start ≡ emptied given → Read text start start 0 0
 unfolding readText total
 read-first text given start h e =
     record {
       inside = omega arith;
-      few = rw (e, empty-lists given) refl;
+      few = rw (e, lists-emptied given) refl;
       ready = rw e (ready-emptied given h);
       kept = refl;
-      lists = rw (e, empty-lists given) refl;
+      lists = rw (e, lists-emptied given) refl;
       words = refl;
     }
 
@@ -150,7 +141,7 @@ module _ (text ws ws′ start : List ℕ) (at e n : ℕ) (s : Step) (r : Read te
   turn-on g =
       let w : takes (lineAt text at e) (listsOf (block ws)) ≡ Went = sym es ∙ g in
       let a : After (lineAt text at e) ws ws′ = rw ew (after (lineAt text at e) ws (r .ready) (wide-at text at e) w) in
-      let l = lists-after (lineAt text at e) ws ws′ a in
+      let l = a .lists in
       let m = bad-end text at e (listsOf (block ws)) w in
       record {
         inside = omega (arith, line-end text at e found h, m);
@@ -205,11 +196,11 @@ feed-decoded n ws (x ∷ xs) ready w e = go (takes x (listsOf (block ws))) refl 
     go Went t ih =
         let a = after x ws ready (w .0) t in
         ih a (a .settled e)
-        ∙ ap (λ (l : Lists). bookWith (feed (n + 1) l xs .lists)) (lists-after x ws (leaves x ws) a)
+        ∙ ap (λ (l : Lists). bookWith (feed (n + 1) l xs .lists)) (a .lists)
     go (Bad k) t ih = book-emptied (leaves x ws)
 
 pub decoded : Decoded
 unfolding textWords readText
 decoded text ws h =
     feed-decoded 0 (emptied ws) (textLines text) (ready-emptied ws h) (wide-lines text) (settled-emptied ws)
-    ∙ ap (λ (l : Lists). bookWith (feed 0 l (textLines text) .lists)) (empty-lists ws)
+    ∙ ap (λ (l : Lists). bookWith (feed 0 l (textLines text) .lists)) (lists-emptied ws)

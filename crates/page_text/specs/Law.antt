@@ -5,7 +5,7 @@ use mathlib.Core.List.{List, [], _∷_, _++_}
 use mathlib.Core.Bool.{true}
 use lib.ListN.{length, take}
 use Rattle.desk.specs.Sizes.{DESK}
-use Rattle.desk.specs.Book.{Lists, noLists, bookWith, okLists}
+use Rattle.book.specs.Book.{Lists, noLists, bookWith, okLists}
 use Rattle.desk.specs.Desk.{bookOf}
 use Rattle.page_line.specs.Records.{Line}
 use Rattle.page_line.specs.Lines.{LINE, textLines}

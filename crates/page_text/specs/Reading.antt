@@ -4,8 +4,8 @@ use Prim.Native.Nat.{ℕ, _+_}
 use mathlib.Core.List.{List, [], _∷_, _++_}
 use mathlib.Core.Bool.{cond}
 use lib.Dec.{eqb}
-use Rattle.desk.specs.declared.Kind.{Kind}
-use Rattle.desk.specs.Book.{Record, Lists, noLists, takeNumber, withRecord}
+use Rattle.book.specs.declared.Kind.{Kind}
+use Rattle.book.specs.Book.{Record, Lists, noLists, takeNumber, withRecord}
 use Rattle.page_line.specs.Records.{Line, entry, malformed}
 use Rattle.page_line.specs.Lines.{textLines}
 use Rattle.page_line.specs.Write.{lineText}

@@ -5,8 +5,9 @@ use mathlib.Core.Bool.{Bool, cond, _&&_}
 use lib.ListN.{length, replicate}
 use lib.Dec.{leb}
 use Rattle.desk.specs.Sizes.{DESK}
-use Rattle.desk.specs.Book.{takeNumber}
-use Rattle.desk.specs.Desk.{listsOf, block, taken, emptied, at0}
+use Rattle.book.specs.Book.{takeNumber}
+use Rattle.block.specs.Block.{listsOf}
+use Rattle.desk.specs.Desk.{block, taken, emptied, at0}
 use Rattle.page_line.specs.Records.{Line, entry, malformed}
 use Rattle.page_line.specs.Lines.{textLines}
 use Rattle.page_text.specs.Reading.{Reading, takes, readText}

@@ -3,7 +3,8 @@ ghost use mathlib.Core.Path.{_≡_};
 ghost use Prim.Native.Nat.{_≤_, _<_};
 ghost use lib.ListN.{length};
 ghost use Rattle.desk.specs.Sizes.{DESK};
-ghost use Rattle.desk.specs.Desk.{Ready, block, listsOf};
+ghost use Rattle.desk.specs.Desk.{Ready, block};
+ghost use Rattle.block.specs.Block.{listsOf};
 ghost use Rattle.page_line.specs.Lines.{lineAt};
 ghost use Rattle.page_text.specs.Reading.{readText, takes};
 ghost use Rattle.page_text.specs.Words.{REFUSAL, leaves, readNumber, readRefusal, readWords, stopOf, textWords, told};
@@ -35,7 +36,7 @@ fn take_line(desk: &mut [u32], text: &[u8], at: usize, e: usize) -> Step
     let page_line::Found::Of(kind) = f else {
         return Step::Bad(0);
     };
-    let w = desk::width(kind);
+    let w = block::width(kind);
     let n = desk::take_record(desk, kind, &row[..w]);
     if n == 0 {
         return Step::Went;

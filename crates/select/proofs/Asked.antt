@@ -4,7 +4,7 @@ use mathlib.Core.List.{List}
 use mathlib.Core.Bool.{true}
 use Prim.Native.Nat.{ℕ}
 use lib.ListN.{length}
-use Rattle.desk.specs.Book.{Lists, okLists}
+use Rattle.book.specs.Book.{Lists, okLists}
 use Rattle.anchors.specs.Records.{records}
 use Rattle.page_graph.specs.Lent.{Asked}
 use Rattle.page_graph.specs.Claims.{Placed}

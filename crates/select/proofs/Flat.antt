@@ -12,13 +12,16 @@ use lib.ListN.{length, getD, take, drop, length-take}
 use lib.Seq.{take-add, take-take, drop-drop}
 use Rattle.rows.specs.Rows.{rows, records, part, count}
 use Rattle.rows.proofs.Rows.{suc-row, take-drop}
-use Rattle.desk.specs.Sizes.{DESK, BLOCK}
-use Rattle.desk.specs.Book.{list, width, most, valid}
-use Rattle.desk.specs.Desk.{start, size, area, listOf, listsOf, block, bookOf}
-use Rattle.desk.specs.declared.Kind.{Kind}
-use Rattle.desk.proofs.Blocks.{length-list, rows-in, within, size-is}
-use Rattle.desk.proofs.Decode.{list-is, count-now}
-use Rattle.desk.proofs.Valid.{head-ok, few-all}
+use Rattle.desk.specs.Sizes.{DESK}
+use Rattle.block.specs.Sizes.{BLOCK}
+use Rattle.book.specs.Book.{list, width, most, valid}
+use Rattle.block.specs.Block.{start, size, area, listOf, listsOf}
+use Rattle.desk.specs.Desk.{block, bookOf}
+use Rattle.book.specs.declared.Kind.{Kind}
+use Rattle.block.proofs.Blocks.{length-list, rows-in, within, size-is}
+use Rattle.block.proofs.Lists.{list-is, few-all}
+use Rattle.desk.proofs.Decode.{count-now}
+use Rattle.desk.proofs.Valid.{head-ok}
 use Rattle.select.specs.Page.{flat}
 
 pub flat-rows : (w n : ℕ) (ws : List ℕ) → flat (rows w n ws) ≡ take (n * w) ws

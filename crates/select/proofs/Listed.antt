@@ -15,11 +15,11 @@ use lib.Seq.{getD-append-add}
 use Rattle.fixed.proofs.Bools.{and-left, and-right}
 use Rattle.rows.specs.Rows.{key, ids, scan, place, isIn}
 use Rattle.rows.proofs.Rows.{suc-row}
-use Rattle.desk.specs.Book.{Record, width, okRecord, own, belongs}
-use Rattle.desk.specs.declared.Kind.{Kind}
-use Rattle.desk.proofs.Fields.{record-long}
-use Rattle.desk.proofs.Blocks.{wide-enough}
-use Rattle.desk.proofs.Keeps.{isIn-cons}
+use Rattle.book.specs.Book.{Record, width, okRecord, own, belongs}
+use Rattle.book.specs.declared.Kind.{Kind}
+use Rattle.book.proofs.Fields.{record-long}
+use Rattle.block.proofs.Blocks.{wide-enough}
+use Rattle.book.proofs.Keeps.{isIn-cons}
 use Rattle.anchors.specs.Records.{ROW}
 use Rattle.anchors.proofs.Counted.{Distinct, Owned}
 use Rattle.select.specs.Page.{flat}

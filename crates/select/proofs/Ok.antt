@@ -16,11 +16,11 @@ use lib.ListN.{length, getD}
 use Rattle.fixed.specs.Constants.{LEAST, GREATEST}
 use Rattle.fixed.proofs.Bools.{and-left, and-right}
 use Rattle.rows.proofs.Rows.{row-in}
-use Rattle.desk.specs.Sizes.{IDS}
-use Rattle.desk.specs.Book.{Record, Lists, width, okId, okPlace, okFields, okRecord, okLists}
-use Rattle.desk.specs.declared.Kind.{Kind}
-use Rattle.desk.proofs.Fields.{record-ranged}
-use Rattle.desk.proofs.Keeps.{boxes-ok, nets-ok, ports-ok, ends-ok, owners-few, owners-scan, members-few, members-scan}
+use Rattle.book.specs.Sizes.{IDS}
+use Rattle.book.specs.Book.{Record, Lists, width, okId, okPlace, okFields, okRecord, okLists}
+use Rattle.book.specs.declared.Kind.{Kind}
+use Rattle.book.proofs.Fields.{record-ranged}
+use Rattle.book.proofs.Keeps.{boxes-ok, nets-ok, ports-ok, ends-ok, owners-few, owners-scan, members-few, members-scan}
 use Rattle.sightline.specs.Boxes.{Fields}
 use Rattle.anchors.specs.Records.{BOX, ROW, NET, RowsHeld}
 use Rattle.anchors.specs.Explicit.{explicit}

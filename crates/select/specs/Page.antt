@@ -2,7 +2,7 @@
 use mathlib.Core.List.{List, [], _∷_, _++_}
 use Prim.Native.Nat.{ℕ}
 use lib.ListN.{length}
-use Rattle.desk.specs.Book.{Record, Lists}
+use Rattle.book.specs.Book.{Record, Lists}
 use Rattle.anchors.specs.Records.{Records, records}
 
 -- records one after another

@@ -36,7 +36,7 @@ use Rattle.layout.specs.Answer as LayoutAnswer
 use Rattle.layout.specs.Layout as LayoutLayout
 use Rattle.layout.specs.Separated as LayoutSeparated
 use Rattle.corridors.specs.Cases as CorridorsCases
-use Rattle.desk.specs.Book.{roomNumber}
+use Rattle.book.specs.Book.{roomNumber}
 use Rattle.starred.specs.Readings.{Readings}
 
 pub readings : Readings

@@ -24,8 +24,8 @@ use Rattle.tracks.specs.Movement.{movement}
 use Rattle.tracks.specs.declared.types.Movement.the-variants.{Restricted, Locked}
 use Rattle.layout.specs.Layout.{Page, blank}
 use Rattle.layout.specs.Answer.{layoutPage}
-use Rattle.desk.specs.declared.Kind.{Kind}
-use Rattle.desk.specs.Book.{roomNumber}
+use Rattle.book.specs.declared.Kind.{Kind}
+use Rattle.book.specs.Book.{roomNumber}
 
 -- anchors at (10,0) PosX, (20,0) no direction, (0,0) PosX: the third scan meets the first node, which has a link onward already
 abbrev pub facing : Anchors

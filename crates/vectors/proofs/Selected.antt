@@ -4,11 +4,11 @@ use mathlib.Core.Bool.{true}
 use mathlib.Core.List.{List}
 use Prim.Native.Nat.{ℕ}
 use lib.ListN.{length}
-use Rattle.desk.specs.Book.{list, valid, answer}
+use Rattle.book.specs.Book.{list, valid, answer}
 use Rattle.desk.specs.Desk.{bookOf, sized}
 use Rattle.desk.proofs.Valid.{head-ok}
 use Rattle.desk.proofs.Whole.{sound-at}
-use Rattle.desk.specs.declared.Kind.{Kind}
+use Rattle.book.specs.declared.Kind.{Kind}
 use Rattle.anchors.specs.Records.{records}
 use Rattle.page_graph.specs.Lent.{Asked}
 use Rattle.select.specs.Page.{flat}

@@ -7,7 +7,7 @@ ghost use mathlib.Core.Bool.{true};
 ghost use Prim.Native.Nat.{_≤_};
 ghost use lib.ListN.{length};
 ghost use Rattle.desk.specs.Sizes.{DESK};
-ghost use Rattle.desk.specs.Book.{valid};
+ghost use Rattle.book.specs.Book.{valid};
 ghost use Rattle.desk.specs.Desk.{bookOf};
 ghost use Rattle.nodes.specs.Lent.{Roomy};
 
@@ -20,7 +20,7 @@ pub fn anchors(desk: &[u32], bytes: &[u8]) -> Verdict
     let mut ways = [0u32; corridors::ANCHORS];
     let boxes = rows::wide(desk[1]);
     let n = crate::corridor::implicit_anchors(
-        &desk[2..1 + desk::BOX_AREA],
+        &desk[2..1 + block::BOX_AREA],
         boxes,
         &mut ax,
         &mut ay,
@@ -60,14 +60,14 @@ fn graph_of(
     if !is_valid(desk) {
         return page_graph::CROWDED;
     }
-    let boxes = select::rows_of(desk, desk::Kind::Box);
-    let nb = select::count_of(desk, desk::Kind::Box);
-    let ports = select::rows_of(desk, desk::Kind::Port);
-    let np = select::count_of(desk, desk::Kind::Port);
-    let nets = select::rows_of(desk, desk::Kind::Net);
-    let nn = select::count_of(desk, desk::Kind::Net);
-    let ends = select::rows_of(desk, desk::Kind::End);
-    let ne = select::count_of(desk, desk::Kind::End);
+    let boxes = select::rows_of(desk, book::Kind::Box);
+    let nb = select::count_of(desk, book::Kind::Box);
+    let ports = select::rows_of(desk, book::Kind::Port);
+    let np = select::count_of(desk, book::Kind::Port);
+    let nets = select::rows_of(desk, book::Kind::Net);
+    let nn = select::count_of(desk, book::Kind::Net);
+    let ends = select::rows_of(desk, book::Kind::End);
+    let ne = select::count_of(desk, book::Kind::End);
     page_graph::graph_of(
         boxes,
         nb,
@@ -139,7 +139,7 @@ fn anchors_of(desk: &[u32]) -> usize
     let mut ay = [0i32; corridors::ANCHORS];
     let mut ways = [0u32; corridors::ANCHORS];
     crate::corridor::implicit_anchors(
-        &desk[2..1 + desk::BOX_AREA],
+        &desk[2..1 + block::BOX_AREA],
         rows::wide(desk[1]),
         &mut ax,
         &mut ay,

@@ -2,7 +2,7 @@
 use mir.ValLaws.{toZ-ofZ}
 use mir.Syntax.{w32}
 use borrow.Author.Needs.{needs}
-use Rattle.desk.specs.declared.Kind.{Kind}
+use Rattle.book.specs.declared.Kind.{Kind}
 use Rattle.desk.proofs.Whole.{as-called}
 use Rattle.clue_desk.proofs.Called.{point-call}
 use Rattle.clue_desk.proofs.add_port.Statement.{statement}

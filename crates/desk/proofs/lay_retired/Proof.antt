@@ -2,8 +2,8 @@
 use mathlib.Core.Path.{refl}
 use Prim.Native.Nat.{_+_, _-_, _*_}
 use native.Mathlib.Omega.{arith}
-use Rattle.desk.proofs.Blocks
-use Rattle.desk.proofs.Decode
+use Rattle.block.proofs.Blocks
+use Rattle.desk.proofs.Words
 use Rattle.desk.proofs.Whole
 use borrow.Author.Needs.{needs}
 use Rattle.desk.proofs.lay_retired.Statement.{statement}
@@ -13,7 +13,7 @@ tag-requires : tie.Need-tag-requires
 tag-requires c κs = search needs
 
 add-entry : tie.Need-add-entry
-add-entry c = omega (arith, Decode.few-tags (c .before .before .args .kind), c .tag .ensures)
+add-entry c = omega (arith, Words.few-tags (c .before .before .args .kind), c .tag .ensures)
 
 array-write-entry : tie.Need-array-write-entry
 array-write-entry c = search needs

@@ -6,10 +6,12 @@ use Prim.Native.Nat.{_≤_, _-_, _+_, _*_}
 use native.Mathlib.Omega.{arith}
 use lib.ListN.{length, drop}
 use borrow.Author.Needs.{needs}
-use Rattle.desk.specs.Desk.{listsOf, entryOf}
-use Rattle.desk.specs.Entries.{copies}
-use Rattle.desk.specs.Book.{okCopy, okLists}
-use Rattle.desk.specs.Sizes.{BLOCK, ENTRY}
+use Rattle.block.specs.Block.{listsOf}
+use Rattle.desk.specs.Desk.{entryOf}
+use Rattle.book.specs.Entries.{copies}
+use Rattle.book.specs.Book.{okCopy, okLists}
+use Rattle.block.specs.Sizes.{BLOCK}
+use Rattle.desk.specs.Sizes.{ENTRY}
 use Rattle.rows.specs.Rows.{scan, rows}
 use Rattle.desk.proofs.Valid
 use Rattle.desk.proofs.ok_entries.Statement.{statement}

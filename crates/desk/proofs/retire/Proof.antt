@@ -1,7 +1,9 @@
 -- `desk::retire` meets its contract. The tests in their order; the block now stays the same when an entry is laid.
 use native.Mathlib.Omega.{arith}
-use Rattle.rows.specs.Rows.{part, key}
-use Rattle.desk.specs.Desk.{block, bookOf, withoutRow}
+use Rattle.rows.specs.Rows.{part}
+use Rattle.book.specs.Book.{leaveNumber}
+use Rattle.block.specs.Block.{withoutRow}
+use Rattle.desk.specs.Desk.{block, bookOf}
 use Rattle.desk.proofs.Whole
 use borrow.Author.Needs.{needs}
 use Rattle.desk.proofs.retire.Statement.{statement}
@@ -16,42 +18,25 @@ same-length c = search needs
 returns : tie.Need-returns
 returns c = Whole.says-d _ _ (c .before .validate .ensures) _ _ _ (c .if1 .taken)
 
-name-number-requires : tie.Need-name-number-requires
-name-number-requires c κs = search needs
+sub-leave-number : tie.Need-sub-leave-number
+sub-leave-number c = search needs
+
+part-leave-number-start : tie.Need-part-leave-number-start
+part-leave-number-start c = search needs
+
+part-leave-number-end : tie.Need-part-leave-number-end
+part-leave-number-end c = omega (arith, (Whole.sound-at _ _ (c .before .before .validate .ensures) (c .before .if1 .left)) .long)
+
+leave-number-requires : tie.Need-leave-number-requires
+unfolding block part
+leave-number-requires c κs = Whole.counted _ (Whole.sound-at _ _ (c .before .before .before .validate .ensures) (c .before .before .if1 .left))
 
 same-length-2 : tie.Need-same-length-2
 same-length-2 c = search needs
 
 returns-2 : tie.Need-returns-2
-returns-2 c = Whole.says-f _ _ (c .before .before .before .validate .ensures) _ _ _ (c .before .before .if1 .left) _ (c .before .name-number .ensures) (c .if2 .taken)
-
-sub-retire-number : tie.Need-sub-retire-number
-sub-retire-number c = search needs
-
-part-retire-number-start : tie.Need-part-retire-number-start
-part-retire-number-start c = search needs
-
-part-retire-number-end : tie.Need-part-retire-number-end
-part-retire-number-end c =
-    let entry = c .before .before .before .before .before .before .before in
-    omega (arith, (Whole.sound-at _ _ (c .before .before .before .before .validate .ensures) (c .before .before .before .if1 .left)) .long)
-
-retire-number-requires : tie.Need-retire-number-requires
-unfolding block part
-retire-number-requires c κs =
-    let entry = c .before .before .before .before .before .before .before .before in
-    Whole.counted _ (Whole.sound-at _ _ (c .before .before .before .before .before .validate .ensures) (c .before .before .before .before .if1 .left))
-
-same-length-3 : tie.Need-same-length-3
-same-length-3 c = search needs
-
-returns-3 : tie.Need-returns-3
-unfolding bookOf block part key
-returns-3 c =
-    let at-if1 = c .before .before .before .before .before .before in
-    let at-validate = at-if1 .before in
-    Whole.says-n _ _ (at-validate .validate .ensures) _ _ _ (at-if1 .if1 .left) _ (c .before .before .before .before .before .name-number .ensures)
-    (c .before .before .before .before .if2 .left) _ (c .before .retire-number .ensures) (c .if3 .taken)
+unfolding bookOf block part leaveNumber
+returns-2 c = Whole.says-n _ _ (c .before .before .before .before .before .validate .ensures) _ _ _ (c .before .before .before .before .if1 .left) _ (c .before .leave-number .ensures) (c .if2 .taken)
 
 sub-spot : tie.Need-sub-spot
 sub-spot c = search needs
@@ -60,34 +45,26 @@ part-spot-start : tie.Need-part-spot-start
 part-spot-start c = search needs
 
 part-spot-end : tie.Need-part-spot-end
-part-spot-end c =
-    let at-if1 = c .before .before .before .before .before .before .before in
-    let at-validate = at-if1 .before in
-    let entry = at-validate .before .before .before in
-    omega (arith, (Whole.sound-at _ _ (at-validate .validate .ensures) (at-if1 .if1 .left)) .long)
+part-spot-end c = omega (arith, (Whole.sound-at _ _ (c .before .before .before .before .before .before .validate .ensures) (c .before .before .before .before .before .if1 .left)) .long)
 
 spot-requires : tie.Need-spot-requires
 unfolding block part
 spot-requires c κs =
-    let at-if1 = c .before .before .before .before .before .before .before .before in
+    let at-if1 = c .before .before .before .before .before .before in
     let at-validate = at-if1 .before in
-    let entry = at-validate .before .before .before in
     Whole.counted _ (Whole.sound-at _ _ (at-validate .validate .ensures) (at-if1 .if1 .left))
 
 lay-retired-requires : tie.Need-lay-retired-requires
 unfolding block part
 lay-retired-requires c κs =
-    let at-if1 = c .before .before .before .before .before .before .before .before .before .before in
+    let at-spot = c .before in
+    let at-if2 = at-spot .before .before .before in
+    let at-leave-number = at-if2 .before in
+    let at-if1 = at-leave-number .before .before .before in
     let at-validate = at-if1 .before in
     let entry = at-validate .before .before .before in
-    let s = Whole.sound-at _ _ (at-validate .validate .ensures) (at-if1 .if1 .left) in (
-      s .long,
-      (
-        Whole.counted _ s,
-        Whole.spot-here _ s (entry .args .kind) _ _ _ (c .before .before .before .before .before .retire-number .ensures)
-            (c .before .before .before .before .if3 .left) (c .before .spot .ensures),
-      ),
-    )
+    let s = Whole.sound-at _ _ (at-validate .validate .ensures) (at-if1 .if1 .left) in
+    (s .long, (Whole.counted _ s, Whole.spot-here _ s (entry .args .kind) _ _ _ (at-leave-number .leave-number .ensures) (at-if2 .if2 .left) (at-spot .spot .ensures)))
 
 sub-cut-record : tie.Need-sub-cut-record
 sub-cut-record c = search needs
@@ -97,47 +74,43 @@ part-cut-record-start c = search needs
 
 part-cut-record-end : tie.Need-part-cut-record-end
 part-cut-record-end c =
-    let at-if1 = c .before .before .before .before .before .before .before .before .before .before .before .before .before in
+    let at-if1 = c .before .before .before .before .before .before .before .before .before .before .before in
     let at-validate = at-if1 .before in
-    let entry = at-validate .before .before .before in
     omega (arith, (Whole.sound-at _ _ (at-validate .validate .ensures) (at-if1 .if1 .left)) .long, c .before .before .lay-retired .kept .0)
 
 cut-record-requires : tie.Need-cut-record-requires
 unfolding block part
 cut-record-requires c κs =
     let at-lay-retired = c .before .before .before in
-    let at-if3 = at-lay-retired .before .before .before .before .before in
-    let at-retire-number = at-if3 .before in
-    let at-if1 = at-retire-number .before .before .before .before .before in
+    let at-if2 = at-lay-retired .before .before .before .before .before in
+    let at-leave-number = at-if2 .before in
+    let at-if1 = at-leave-number .before .before .before in
     let at-validate = at-if1 .before in
     let entry = at-validate .before .before .before in
     let s = Whole.sound-at _ _ (at-validate .validate .ensures) (at-if1 .if1 .left) in
-    let i = Whole.spot-here _ s (entry .args .kind) _ _ _ (at-retire-number .retire-number .ensures) (at-if3 .if3 .left) (c .before .before .before .before .before .spot .ensures) in
+    let i = Whole.spot-here _ s (entry .args .kind) _ _ _ (at-leave-number .leave-number .ensures) (at-if2 .if2 .left) (c .before .before .before .before .before .spot .ensures) in
     let e = Whole.long-retired _ s (entry .args .kind) _ i in
     (Whole.counted-laid _ s _ _ e (at-lay-retired .lay-retired .ensures), Whole.spot-laid _ s _ _ e (at-lay-retired .lay-retired .ensures) (entry .args .kind) _ i)
 
-same-length-4 : tie.Need-same-length-4
-same-length-4 c = search needs
+same-length-3 : tie.Need-same-length-3
+same-length-3 c = search needs
 
-returns-4 : tie.Need-returns-4
-unfolding bookOf block part key
-returns-4 c =
+returns-3 : tie.Need-returns-3
+unfolding bookOf block part leaveNumber
+returns-3 c =
     let at-lay-retired = c .before .before .before .before .before .before in
     let at-spot = at-lay-retired .before .before in
-    let at-if3 = at-spot .before .before .before in
-    let at-retire-number = at-if3 .before in
-    let at-if2 = at-retire-number .before .before .before in
-    let at-name-number = at-if2 .before in
-    let at-if1 = at-name-number .before in
+    let at-if2 = at-spot .before .before .before in
+    let at-leave-number = at-if2 .before in
+    let at-if1 = at-leave-number .before .before .before in
     let at-validate = at-if1 .before in
     let entry = at-validate .before .before .before in
     let s = Whole.sound-at _ _ (at-validate .validate .ensures) (at-if1 .if1 .left) in
     let k = entry .args .kind in
-    let e = Whole.long-retired _ s k _ (Whole.spot-here _ s (entry .args .kind) _ _ _ (at-retire-number .retire-number .ensures) (at-if3 .if3 .left) (at-spot .spot .ensures)) in
-    Whole.says-0 _ _ (at-validate .validate .ensures) _ _ _ (at-if1 .if1 .left) _ (at-name-number .name-number .ensures) (at-if2 .if2 .left) _ (at-retire-number .retire-number .ensures)
-    (at-if3 .if3 .left) _
-    (Whole.retired-at _ k _ _ _ (at-spot .spot .ensures) (Whole.changed _ s _ _ e (at-lay-retired .lay-retired .ensures) (withoutRow k (at-spot .spot .result)) _
-    (c .before .before .cut-record .ensures)))
+    let e = Whole.long-retired _ s k _ (Whole.spot-here _ s k _ _ _ (at-leave-number .leave-number .ensures) (at-if2 .if2 .left) (at-spot .spot .ensures)) in
+    Whole.says-0 _ _ (at-validate .validate .ensures) _ _ _ (at-if1 .if1 .left) _ (at-leave-number .leave-number .ensures) (at-if2 .if2 .left) _
+    (Whole.retired-at _ k _ _ _ (at-spot .spot .ensures)
+    (Whole.changed _ s _ _ e (at-lay-retired .lay-retired .ensures) (withoutRow k (at-spot .spot .result)) _ (c .before .before .cut-record .ensures)))
 
 pub retire-spec : {M : Type 1} → statement M
 retire-spec =
@@ -146,15 +119,12 @@ retire-spec =
     validate-requires
     same-length
     returns
-    name-number-requires
+    sub-leave-number
+    part-leave-number-start
+    part-leave-number-end
+    leave-number-requires
     same-length-2
     returns-2
-    sub-retire-number
-    part-retire-number-start
-    part-retire-number-end
-    retire-number-requires
-    same-length-3
-    returns-3
     sub-spot
     part-spot-start
     part-spot-end
@@ -164,5 +134,5 @@ retire-spec =
     part-cut-record-start
     part-cut-record-end
     cut-record-requires
-    same-length-4
-    returns-4)
+    same-length-3
+    returns-3)

@@ -4,8 +4,9 @@ use mathlib.Core.Path.{refl, sym}
 use Prim.Native.Nat.{_+_, _-_}
 use native.Mathlib.Omega.{arith}
 use borrow.Author.Needs.{needs}
-use Rattle.desk.specs.Desk.{listsOf, entryOf}
-use Rattle.desk.proofs.Taken
+use Rattle.block.specs.Block.{listsOf}
+use Rattle.desk.specs.Desk.{entryOf}
+use Rattle.desk.proofs.Words
 use Rattle.desk.proofs.take_entry.Statement.{statement}
 use Rattle.desk.proofs.take_entry.Tie as tie
 
@@ -24,7 +25,7 @@ same-length c = search needs
 returns : tie.Need-returns
 returns c =
     let entry = c .before .before .before .before .before .before .before .before .before in
-    Taken.of-entry (entryOf _) _ (listsOf _) _ _ _ (Taken.as-out _ _ refl (c .before .before .before .before .before .if1 .taken) _ (c .before .before .before .kind-of .ensures))
+    Words.of-entry (entryOf _) _ (listsOf _) _ _ _ (Words.as-out _ _ refl (c .before .before .before .before .before .if1 .taken) _ (c .before .before .before .kind-of .ensures))
     (c .before .before .take-out .ensures)
 
 mul-if2 : tie.Need-mul-if2
@@ -45,7 +46,7 @@ width-requires c κs = search needs
 add-put-back : tie.Need-add-put-back
 add-put-back c =
     let entry = c .before .before .before .before .before .before .before .before .before .before in
-    omega (arith, Taken.row-inside (c .before .before .before .before .kind-of2 .result) (entry .args .entry .now) (c .width .result) (entry .pre .2) (c .width .ensures), entry .pre .2)
+    omega (arith, Words.row-inside (c .before .before .before .before .kind-of2 .result) (entry .args .entry .now) (c .width .result) (entry .pre .2) (c .width .ensures), entry .pre .2)
 
 sub-put-back : tie.Need-sub-put-back
 sub-put-back c = search needs
@@ -56,7 +57,7 @@ part-put-back-start c = search needs
 part-put-back-end : tie.Need-part-put-back-end
 part-put-back-end c =
     let entry = c .before .before .before .before .before .before .before .before .before .before in
-    omega (arith, Taken.row-inside (c .before .before .before .before .kind-of2 .result) (entry .args .entry .now) (c .width .result) (entry .pre .2) (c .width .ensures), entry .pre .2)
+    omega (arith, Words.row-inside (c .before .before .before .before .kind-of2 .result) (entry .args .entry .now) (c .width .result) (entry .pre .2) (c .width .ensures), entry .pre .2)
 
 put-back-requires : tie.Need-put-back-requires
 put-back-requires c κs =
@@ -64,7 +65,7 @@ put-back-requires c κs =
     let entry = at-width .before .before .before .before .before .before .before .before .before .before in (
       entry .pre .0,
       entry .pre .1,
-      Taken.row-there (c .before .before .before .before .before .kind-of2 .result) (entry .args .entry .now) (at-width .width .result)
+      Words.row-there (c .before .before .before .before .before .kind-of2 .result) (entry .args .entry .now) (at-width .width .result)
           (2 + at-width .width .result - 2) (entry .pre .2) (at-width .width .ensures) refl,
     )
 
@@ -79,13 +80,13 @@ returns-2 c =
     let at-if2 = at-kind-of2 .before in
     let at-if1 = at-if2 .before in
     let entry = at-if1 .before .before .before .before in
-    Taken.of-entry (entryOf _) _ (listsOf _) _ _ _ (Taken.as-back _ _ refl (at-if1 .if1 .left) (at-if2 .if2 .taken) _ (at-kind-of2 .kind-of2 .ensures) _ _ (2 + at-width .width .result - 2)
+    Words.of-entry (entryOf _) _ (listsOf _) _ _ _ (Words.as-back _ _ refl (at-if1 .if1 .left) (at-if2 .if2 .taken) _ (at-kind-of2 .kind-of2 .ensures) _ _ (2 + at-width .width .result - 2)
     (at-width .width .ensures) (at-wide .wide .ensures) refl) (c .before .before .put-back .ensures)
 
 returns-3 : tie.Need-returns-3
 returns-3 c =
     let entry = c .before .before .before .before .before in
-    (Taken.no-entry (entryOf _) (listsOf _) (Taken.as-none _ _ refl (c .if2 .left)), λ z. absurd (true≢false (sym z)))
+    (Words.no-entry (entryOf _) (listsOf _) (Words.as-none _ _ refl (c .if2 .left)), λ z. absurd (true≢false (sym z)))
 
 pub take-entry-spec : {M : Type 1} → statement M
 take-entry-spec =

@@ -1,4 +1,4 @@
-use Rattle.desk.specs.declared.Kind.{Kind}
+use Rattle.book.specs.declared.Kind.{Kind}
 use Rattle.page_line.proofs.Rows as R
 use borrow.Author.Needs.{needs}
 use Rattle.page_line.proofs.sort_of.Statement.{statement}

@@ -1,7 +1,7 @@
 -- `select::count_of` meets its contract. The count stands first in the kind's area.
 use native.Mathlib.Omega.{arith}
 use borrow.Author.Needs.{needs}
-use Rattle.desk.proofs.Blocks.{within, size-is}
+use Rattle.block.proofs.Blocks.{within, size-is}
 use Rattle.select.proofs.Flat.{count-desk}
 use Rattle.select.proofs.count_of.Statement.{statement}
 use Rattle.select.proofs.count_of.Tie as tie

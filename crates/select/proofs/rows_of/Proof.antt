@@ -2,7 +2,7 @@
 use mathlib.Core.Path.{refl}
 use native.Mathlib.Omega.{arith}
 use borrow.Author.Needs.{needs}
-use Rattle.desk.proofs.Blocks.{within}
+use Rattle.block.proofs.Blocks.{within}
 use Rattle.select.proofs.Flat.{rows-end, rows-desk}
 use Rattle.select.proofs.rows_of.Statement.{statement}
 use Rattle.select.proofs.rows_of.Tie as tie

@@ -1,0 +1,4 @@
+pub mod Blocks
+pub mod Lists
+pub mod Fits
+pub mod Taken

@@ -1,0 +1,93 @@
+-- The number of a record's fields, and of a call that it decides.
+--     record-is, record-long, record-ranged    a record that a desk may hold
+--     answer-f, answer-n, answer-0             an answer by its parts
+--     fields-say, lists-say                    a function that tests the fields first
+--     take-0, leave-0, takes                   an addition or a retirement that gets 0
+use mathlib.Core.Path.{_≡_, refl, sym, _∙_}
+use mathlib.Core.List.{List}
+use mathlib.Core.Bool.{Bool, true, false, cond, _&&_, true≢false}
+use Prim.Native.Nat.{ℕ}
+use native.Mathlib.Omega.{arith}
+use lib.ListN.{length}
+use lib.Dec.{eqb}
+use borrow.Author.Tests.{eq-eqb, ne-eqb, eqb-true}
+use Rattle.fixed.proofs.Bools.{and-left, and-right}
+use Rattle.rows.specs.Rows.{key}
+use Rattle.book.specs.Book.{Record, Lists, width, okFields, ranged, fieldsNumber, okRecord, nameNumber, addNumber, retireNumber, answer, takeNumber, leaveNumber}
+use Rattle.book.specs.declared.Kind.{Kind}
+
+-- ---- a record that a desk may hold
+ranged-0 : (b : Bool) → eqb (ranged b) 0 ≡ b
+unfolding ranged
+ranged-0 true = refl
+ranged-0 false = refl
+
+module _ (k : Kind) (r : Record) where
+  pub record-is : okRecord k r ≡ eqb (length r) (width k) && okFields k r
+  unfolding okRecord fieldsNumber
+  record-is = ranged-0 (eqb (length r) (width k) && okFields k r)
+
+  pub record-long : okRecord k r ≡ true → length r ≡ width k
+  record-long e = eqb-true (length r) (width k) (and-left (eqb (length r) (width k)) (okFields k r) (sym record-is ∙ e))
+
+  pub record-ranged : okRecord k r ≡ true → okFields k r ≡ true
+  record-ranged e = and-right (eqb (length r) (width k)) (okFields k r) (sym record-is ∙ e)
+
+  pub record-0 : okRecord k r ≡ true → fieldsNumber k r ≡ 0
+  unfolding okRecord
+  record-0 e = eqb-true (fieldsNumber k r) 0 e
+
+  pub record-of-0 : fieldsNumber k r ≡ 0 → okRecord k r ≡ true
+  unfolding okRecord
+  record-of-0 e = eq-eqb (fieldsNumber k r) 0 e
+
+-- the number by the record's kind
+pub fields-are : {k e : Kind} (row : List ℕ) (b : Bool) (n : ℕ) → k ≡ e → length row ≡ width k → b ≡ okFields e row → n ≡ ranged b → n ≡ fieldsNumber k row
+unfolding fieldsNumber
+fields-are {k} row b n p h e q = q ∙ rw (eq-eqb (length row) (width k) h, p, e)
+
+pub name-is : {k e : Kind} (name n : ℕ) → k ≡ e → n ≡ nameNumber e name → n ≡ nameNumber k name
+name-is name n p e = e ∙ rw p
+
+-- ---- an answer by its parts
+pub answer-f : (f n : ℕ) → (f ≡ 0 → ⊥) → answer true f n ≡ f
+unfolding answer
+answer-f f n h = rw (ne-eqb f 0 h)
+
+pub answer-n : (f n : ℕ) → f ≡ 0 → answer true f n ≡ n
+unfolding answer
+answer-n f n e = rw (eq-eqb f 0 e)
+
+pub answer-0 : (v : Bool) (f n : ℕ) → answer v f n ≡ 0 → (v ≡ true) × (f ≡ 0) × (n ≡ 0)
+unfolding answer
+answer-0 true f n e = go (eqb f 0) refl e
+  where
+    go : (b : Bool) → eqb f 0 ≡ b → cond b n f ≡ 0 → (true ≡ true) × (f ≡ 0) × (n ≡ 0)
+    go true t q = (refl, eqb-true f 0 t, q)
+    go false t q = absurd (true≢false (sym (eq-eqb f 0 q) ∙ t))
+answer-0 false f n e = absurd (omega arith)
+
+-- the fields are tested first: g is what they got, m what the lists did
+pub fields-say : {f g : ℕ} (n : ℕ) → g ≡ f → (g ≡ 0 → ⊥) → g ≡ answer true f n
+fields-say {f} n e h = e ∙ sym (answer-f f n (λ z. h (e ∙ z)))
+
+pub lists-say : {f g m n : ℕ} → g ≡ f → g ≡ 0 → m ≡ n → m ≡ answer true f n
+lists-say {f} {n = n} e z q = q ∙ sym (answer-n f n (sym e ∙ z))
+
+-- ---- an addition or a retirement on a sound desk
+pub take-0 : (k : Kind) (r : Record) (l : Lists) → takeNumber k r l ≡ 0 → addNumber k l (key r) ≡ 0
+unfolding takeNumber
+take-0 k r l e = answer-0 true (fieldsNumber k r) (addNumber k l (key r)) e .2
+
+pub leave-0 : (k : Kind) (name : ℕ) (l : Lists) → leaveNumber k name l ≡ 0 → retireNumber k l name ≡ 0
+unfolding leaveNumber
+leave-0 k name l e = answer-0 true (nameNumber k name) (retireNumber k l name) e .2
+
+-- a record could be added exactly if its number is 0
+pub takes : (k : Kind) (r : Record) (l : Lists) → okRecord k r && eqb (addNumber k l (key r)) 0 ≡ eqb (takeNumber k r l) 0
+unfolding okRecord takeNumber answer
+takes k r l = go (eqb (fieldsNumber k r) 0) refl
+  where
+    go : (b : Bool) → eqb (fieldsNumber k r) 0 ≡ b → b && eqb (addNumber k l (key r)) 0 ≡ eqb (cond b (addNumber k l (key r)) (fieldsNumber k r)) 0
+    go true e = refl
+    go false e = sym e

@@ -1,0 +1,5 @@
+pub mod ByKind
+pub mod Fields
+pub mod Keeps
+pub mod Entries
+pub mod Builds
