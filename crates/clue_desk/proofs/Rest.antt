@@ -1,5 +1,5 @@
 -- A reading of a text keeps the words of a desk past its size.
-use mathlib.Core.Path.{_≡_, refl, sym, ap, _∙_}
+use mathlib.Core.Path.{_≡_, refl, ap, _∙_}
 use mathlib.Core.List.{List, [], _∷_}
 use mathlib.Core.Bool.{Bool, true, false, cond, _&&_}
 use Prim.Native.Nat.{ℕ, _+_, _<_, _≤_}
@@ -9,16 +9,15 @@ use lib.Dec.{leb}
 use lib.Seq.{drop-set-lt}
 use borrow.Author.Tests.{leb-true}
 use Rattle.fixed.proofs.Bools.{and-left}
-use Rattle.rows.specs.Rows.{key, count}
+use Rattle.rows.specs.Rows.{count}
 use Rattle.rows.proofs.Parts
 use Rattle.desk.specs.Sizes.{DESK}
 use Rattle.block.specs.Sizes.{BLOCK, PORTS-AT, NETS-AT, ENDS-AT}
-use Rattle.book.specs.Book.{Record, width, most, fieldsNumber, addNumber, takeNumber}
+use Rattle.book.specs.Book.{Record, width, most, takeNumber}
 use Rattle.desk.specs.Desk.{Ready, block, withBlock, emptied, taken, at0}
 use Rattle.block.specs.Block.{area, listsOf, withRow}
 use Rattle.book.specs.declared.Kind.{Kind}
-use Rattle.book.proofs.Fields.{answer-0}
-use Rattle.block.proofs.Blocks.{room-of, room-0}
+use Rattle.block.proofs.Blocks.{room-0, take-room}
 use Rattle.block.proofs.Lists.{counted-with}
 use Rattle.desk.proofs.Decode.{ready-emptied}
 use Rattle.page_line.specs.Records.{Line, entry, malformed}
@@ -44,10 +43,7 @@ rest-emptied ws =
 -- a record that is added without a copy changes the lists' block alone
 module _ (k : Kind) (r : Record) (ws : List ℕ) (ready : Ready ws) (hw : length r ≡ width k) (e : takeNumber k r (listsOf (block ws)) ≡ 0) where
   has-room : count (area k (block ws)) < most k
-  unfolding takeNumber
-  has-room =
-      room-0 k (block ws)
-      (room-of k (block ws) (key r) (addNumber k (listsOf (block ws)) (key r)) refl (answer-0 true (fieldsNumber k r) (addNumber k (listsOf (block ws)) (key r)) e .2))
+  has-room = room-0 k (block ws) (take-room k (block ws) r _ refl e)
 
   rest-taken : drop DESK (leaves (entry k r) ws) ≡ drop DESK ws
   unfolding leaves at0 taken withBlock
