@@ -32,7 +32,7 @@
  * Stack. search and layout keep their scratch on the stack: see CLUE_DESK_STACK. There is no heap.
  *
  * Units. A coordinate is a count of steps, 256 to the unit, from -CLUE_DESK_COORDINATE to CLUE_DESK_COORDINATE.
- * Ids go from 1 to CLUE_DESK_ID.
+ * Ids go from 1 to CLUE_DESK_ID, so that every uint32_t but 0 is one.
  */
 #ifndef CLUE_DESK_H
 #define CLUE_DESK_H
@@ -61,7 +61,7 @@ extern "C" {
 #define CLUE_DESK_ENDS 256
 #define CLUE_DESK_COPIES 32           /* undos in a row */
 #define CLUE_DESK_SEARCH_ENDS 4096
-#define CLUE_DESK_ID 65535
+#define CLUE_DESK_ID 4294967295
 #define CLUE_DESK_COORDINATE 4194304
 
 /* The words of a desk, for a caller that reads them. Only calls should write them: all but read_text test what is said here and
@@ -122,7 +122,8 @@ extern "C" {
 #define CLUE_DESK_NEG_Y 4
 #define CLUE_DESK_POS_Y 8
 
-/* Reads a page text: empties lists and pile, then adds the text's lines without undo entries. 0, or 16, or 1.
+/* Reads a page text: empties lists and pile, then adds the text's lines without undo entries. A line has at most 96 bytes with its
+ * LF. 0, or 16, or 1.
  * refusal: the 1-based line and the inner number (0 if the line is malformed) at 16, zeros at 0; zeros behind them. */
 uint32_t read_text(uint32_t *desk, size_t desk_len, const uint8_t *text, size_t text_len, uint32_t *refusal, size_t refusal_len);
 

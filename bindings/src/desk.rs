@@ -82,7 +82,8 @@ impl Desk {
         answer(call(words.as_mut_ptr(), words.len()))
     }
 
-    /// Reads a page text: empties the desk, then adds the lines without undo entries.
+    /// Reads a page text: empties the desk, then adds the lines without undo entries. A line has at most
+    /// 96 bytes with its LF.
     ///
     /// # Errors
     ///

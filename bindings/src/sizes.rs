@@ -75,8 +75,8 @@ pub const KIND_PORT: u32 = 1;
 pub const KIND_NET: u32 = 2;
 pub const KIND_END: u32 = 3;
 
-/// Ids go from 1 to this.
-pub const GREATEST_ID: u32 = 65_535;
+/// Ids go from 1 to this: every word but 0.
+pub const GREATEST_ID: u32 = 4_294_967_295;
 
 /// Coordinates go from minus this to this, in steps.
 pub const GREATEST_COORDINATE: i32 = 4_194_304;

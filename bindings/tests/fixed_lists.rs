@@ -15,9 +15,9 @@ fn list(name: &str) -> Vec<u8> {
 #[test]
 fn calls() {
     let done = replay::Calls {
-        calls: 25_121,
-        words: 2_941,
-        lists: 1_543,
+        calls: 30_993,
+        words: 2_933,
+        lists: 1_881,
     };
     assert_eq!(replay::calls(&list("calls/stdin")), done);
 }
@@ -25,10 +25,10 @@ fn calls() {
 #[test]
 fn pages() {
     let done = replay::Pages {
-        pages: 662,
-        refused: 148,
-        listings: 1_389,
-        searches: 2_342,
+        pages: 725,
+        refused: 165,
+        listings: 1_486,
+        searches: 2_478,
     };
     assert_eq!(replay::pages(&list("vectors/data/pages.txt")), done);
 }

@@ -98,6 +98,17 @@ int main(void) {
         printf("undo %" PRIu32 "\n", undo(desk, CLUE_DESK_WORDS));
     print_lists();
     print_entries();
+    uint32_t long_id[] = {
+        add_box(desk, CLUE_DESK_WORDS, CLUE_DESK_ID, 25600, 0, 30720, 5120),
+        retire_box(desk, CLUE_DESK_WORDS, CLUE_DESK_ID),
+        retire_box(desk, CLUE_DESK_WORDS, CLUE_DESK_ID),
+        undo(desk, CLUE_DESK_WORDS),
+    };
+    for (size_t i = 0; i < sizeof long_id / sizeof *long_id; i++)
+        printf("%" PRIu32 "%c", long_id[i], i + 1 < sizeof long_id / sizeof *long_id ? ' ' : '\n');
+    print_list("box", CLUE_DESK_BOXES_AT, CLUE_DESK_BOX_WORDS, 4);
+    printf("read %" PRIu32 "\n", read("net\t4294967295\n"));
+    print_lists();
     printf("read %" PRIu32, read("net\t1\nport\t9\t0\t0\t0\n"));
     printf(" at line %" PRIu32 " with %" PRIu32 "\n", refusal[0], refusal[1]);
     return 0;

@@ -53,6 +53,8 @@ fn a_c_program_makes_every_call() {
         box 7 25600 0 30720 5120\nport 7 25600 2560 1\nnet 1\n\
         end 1 0 0 0\nend 1 2560 5120 0\nend 1 25600 2560 1\n\
         last end goes\nlast port goes\nlast box goes\n\
+        0 0 4 0\nbox 7 25600 0 30720 5120\nbox 4294967295 25600 0 30720 5120\n\
+        read 0\nnet 4294967295\n\
         read 16 at line 2 with 4\n";
     assert_eq!(String::from_utf8_lossy(&output.stdout), expected);
 }

@@ -213,9 +213,9 @@ fn arguments_out_of_range_get_2_and_zeros() {
         Call::AddBox([9, 1, 0, 0, 0]),
         Call::AddPort([1, 0, 0, 16]),
         Call::AddEnd([1, 0, 0, 2]),
-        Call::AddNet(65_536),
+        Call::AddNet(0),
         Call::RetireBox(0),
-        Call::RetireNet(u32::MAX),
+        Call::RetireNet(0),
     ];
     bad.extend(
         [i32::MIN, -EDGE - 1, EDGE + 1, i32::MAX].map(|out| Call::AddEnd([1, out as u32, 0, 0])),

@@ -6,7 +6,7 @@ use clue_desk::{
 use clue_desk::{BOXES, COPIES, DESK_WORDS, ENDS, NEG_X, NETS, PORTS, POS_X, STACK, VERTICES};
 use clue_desk::{BOXES_AT, BOX_WORDS, ENDS_AT, END_WORDS, NETS_AT, NET_ID_WORDS};
 use clue_desk::{ENTRIES_AT, ENTRY_WORDS, ORIGIN, PORTS_AT, PORT_WORDS, UNDO_ADD, UNDO_RETIRE};
-use clue_desk::{GREATEST_COORDINATE, KIND_BOX, KIND_END, KIND_NET, KIND_PORT};
+use clue_desk::{GREATEST_COORDINATE, GREATEST_ID, KIND_BOX, KIND_END, KIND_NET, KIND_PORT};
 use std::io::Write;
 use std::process::{Command, Stdio};
 use std::thread;
@@ -228,7 +228,7 @@ fn the_words_hold_the_records() {
     let (min, max) = (-GREATEST_COORDINATE, GREATEST_COORDINATE);
     let (least, greatest) = (Place::new(min, -1), Place::new(0, max));
     let mut desk = Desk::new();
-    for id in [7, 65_535] {
+    for id in [7, GREATEST_ID] {
         desk.add_box(id, least, greatest).expect("it goes");
         desk.add_port(id, greatest, id % 16).expect("it goes");
         desk.add_net(id).expect("it goes");
@@ -236,12 +236,12 @@ fn the_words_hold_the_records() {
     }
     let ([x0, y0], [x1, y1]) = (steps(least), steps(greatest));
     assert_eq!((x0, y0), (ORIGIN - max as u32, ORIGIN - 1));
-    let boxes = [[7, x0, y0, x1, y1], [65_535, x0, y0, x1, y1]];
-    let ports = [[7, x1, y1, 7], [65_535, x1, y1, 15]];
-    let ends = [[7, x0, y0, 1], [65_535, x0, y0, 1]];
+    let boxes = [[7, x0, y0, x1, y1], [GREATEST_ID, x0, y0, x1, y1]];
+    let ports = [[7, x1, y1, 7], [GREATEST_ID, x1, y1, 15]];
+    let ends = [[7, x0, y0, 1], [GREATEST_ID, x0, y0, 1]];
     assert_eq!(rows(&desk, BOXES_AT, BOX_WORDS), boxes);
     assert_eq!(rows(&desk, PORTS_AT, PORT_WORDS), ports);
-    assert_eq!(rows(&desk, NETS_AT, NET_ID_WORDS), [[7], [65_535]]);
+    assert_eq!(rows(&desk, NETS_AT, NET_ID_WORDS), [[7], [GREATEST_ID]]);
     assert_eq!(rows(&desk, ENDS_AT, END_WORDS), ends);
     assert_eq!(desk.words()[0], 8);
     for (number, kind) in [KIND_END, KIND_NET, KIND_PORT, KIND_BOX].iter().enumerate() {
@@ -249,7 +249,7 @@ fn the_words_hold_the_records() {
         assert_eq!(entry(&desk, number + 4, 1), [UNDO_ADD + kind]);
     }
     desk.retire_port(1).expect("it goes");
-    let port = [UNDO_RETIRE + KIND_PORT, 1, 65_535, x1, y1, 15];
+    let port = [UNDO_RETIRE + KIND_PORT, 1, GREATEST_ID, x1, y1, 15];
     assert_eq!(entry(&desk, 0, port.len()), port);
 }
 
@@ -314,10 +314,46 @@ fn changes_are_refused() {
     assert_eq!(desk.add_net(0), Err(Refusal::OutOfRange));
     assert_eq!(desk.add_end(7, at(0, 10), 1), Err(Refusal::Unknown));
     assert_eq!(desk.retire_box(2), Err(Refusal::Unknown));
-    assert_eq!(desk.retire_net(65_536), Err(Refusal::OutOfRange));
+    assert_eq!(desk.retire_box(0), Err(Refusal::OutOfRange));
+    assert_eq!(desk.retire_net(0), Err(Refusal::OutOfRange));
+    assert_eq!(desk.retire_net(GREATEST_ID), Err(Refusal::Unknown));
     assert_eq!(desk.retire_port(1), Err(Refusal::Unknown));
     assert_eq!(desk.retire_end(0), Err(Refusal::Unknown));
     assert_eq!(desk.words(), words);
+}
+
+/// Ids of which no two are told apart by their low 16 bits alone.
+const LONG_IDS: [u32; 4] = [1, 65_537, 2_147_483_649, 4_294_901_761];
+
+#[test]
+fn long_ids_are_added_retired_and_undone() {
+    let mut desk = Desk::new();
+    for id in LONG_IDS {
+        desk.add_box(id, at(40, 0), at(60, 20)).expect("it goes");
+        desk.add_net(id).expect("it goes");
+        desk.add_end(id, at(0, 0), 0).expect("it goes");
+        desk.add_end(id, at(10, 20), 0).expect("it goes");
+    }
+    let (all, text) = (desk.words().to_vec(), desk.to_string());
+    let mut router = Router::new();
+    let page = router.layout(&desk, true, true).expect("it is not crowded");
+    let listed: Vec<_> = page.nets().map(|net| (net.id(), net.routed())).collect();
+    assert_eq!(listed, LONG_IDS.map(|id| (id, Ok(()))));
+
+    for id in LONG_IDS {
+        let again = desk.add_box(id, at(40, 0), at(60, 20));
+        assert_eq!(again, Err(Refusal::LiveAlready));
+        assert_eq!(desk.retire_net(id), Err(Refusal::InUse));
+        desk.retire_box(id).expect("it has no port");
+        assert_eq!(desk.boxes().len(), LONG_IDS.len() - 1);
+        assert!(desk.boxes().all(|b| b.id != id));
+        assert_eq!(desk.add_port(id, at(40, 10), 1), Err(Refusal::Unknown));
+        desk.undo().expect("the box comes back");
+        assert_eq!(desk.words()[..ENTRIES_AT], all[..ENTRIES_AT]);
+    }
+    let mut read = Desk::new();
+    assert_eq!(read.read_text(text.as_bytes()), Ok(()));
+    assert_eq!(read.to_string(), text);
 }
 
 #[test]

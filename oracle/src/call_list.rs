@@ -4,7 +4,7 @@ mod handed;
 
 use crate::desk::{Desk, Lists, Place, MAX_BOXES, MAX_ENDS, MAX_NETS, MAX_PORTS};
 use crate::page_text::{self, push_line};
-use crate::pages::{self, Kind};
+use crate::pages::{self, Kind, Numbers};
 use crate::random::Random;
 
 const READ: i64 = 0;
@@ -134,11 +134,13 @@ pub fn fixed_list() -> Vec<u8> {
         recorder.calls(sequence);
         recorder.lists();
     }
-    for seed in 0..120 {
-        random_sequence(&mut recorder, &mut Random::new(seed));
+    for seed in 0..160 {
+        let ids = if seed < 120 { SHORT_IDS } else { LONG_IDS };
+        random_sequence(&mut recorder, &mut Random::new(seed), &ids);
     }
-    for seed in 0..300 {
-        text_sequence(&mut recorder, &mut Random::new(seed));
+    for seed in 0..400 {
+        let ids = if seed < 300 { SHORT_IDS } else { LONG_IDS };
+        text_sequence(&mut recorder, &mut Random::new(seed), &ids);
     }
     handed::sequences(&mut recorder);
     recorder.list
@@ -148,8 +150,9 @@ pub fn fixed_list() -> Vec<u8> {
 pub fn generated_list(first: u64, count: u64) -> Vec<u8> {
     let mut recorder = Recorder::default();
     for seed in first..first + count {
-        random_sequence(&mut recorder, &mut Random::new(seed));
-        text_sequence(&mut recorder, &mut Random::new(seed));
+        let ids = if seed % 4 < 3 { SHORT_IDS } else { LONG_IDS };
+        random_sequence(&mut recorder, &mut Random::new(seed), &ids);
+        text_sequence(&mut recorder, &mut Random::new(seed), &ids);
     }
     recorder.list
 }
@@ -170,6 +173,7 @@ fn sequences() -> Vec<Vec<Call>> {
         texts(),
         refused_texts(),
         undone_reference(),
+        long_ids(),
     ]
 }
 
@@ -238,6 +242,7 @@ fn fields_out_of_range() -> Vec<Call> {
         Call::Box(1, at(-EDGE, -EDGE), at(EDGE, EDGE)),
         Call::Net(65_535),
     ];
+    // Of these ids only 0 is out of range.
     for id in [0, 65_536, 4_294_967_295] {
         calls.extend([
             Call::Box(id, at(0, 0), at(0, 0)),
@@ -430,11 +435,68 @@ fn undone_reference() -> Vec<Call> {
     ]
 }
 
+/// The longest ids and ids that are alike in their low 16 or 31 bits: each added, in use, retired and
+/// undone by itself.
+fn long_ids() -> Vec<Call> {
+    let ids = [1, 65_537, 2_147_483_649, 4_294_901_761, 4_294_967_295];
+    let all = |call: fn(i64) -> Call| ids.map(call);
+    let mut calls = Vec::new();
+    calls.extend(all(|id| Call::Box(id, at(0, 0), at(5, 5))));
+    calls.extend(all(|id| Call::Port(id, at(1, 2), id % 16)));
+    calls.extend(all(Call::Net));
+    calls.extend(all(|id| Call::End(id, at(1, 2), id % 2)));
+    calls.extend(all(|id| Call::Box(id, at(0, 0), at(5, 5))));
+    calls.extend(all(Call::Net));
+    calls.extend(all(Call::RetireBox));
+    calls.extend(all(Call::RetireNet));
+    calls.extend([Call::RetirePort(4), Call::RetireEnd(4)]);
+    calls.extend(all(Call::RetireBox));
+    calls.extend(all(Call::RetireNet));
+    calls.push(Call::Port(4_294_967_295, at(1, 2), 0));
+    calls.push(Call::End(4_294_967_295, at(1, 2), 0));
+    calls.extend(undos(3));
+    calls.extend([
+        Call::Undo,
+        Call::RetireEnd(4),
+        Call::RetireNet(4_294_967_295),
+    ]);
+    calls.extend([Call::Net(4_294_967_294), Call::Undo, Call::Undo]);
+    calls
+}
+
+/// Ids of calls: few, some of them at and past document 01's limit, or alike in their low bits.
+const SHORT_IDS: Ids = Ids {
+    calls: [0, 1, 1, 2, 2, 3, 3, 4, 5, 65_535, 65_536],
+    texts: Numbers::SHORT_IDS,
+};
+const LONG_IDS: Ids = Ids {
+    calls: [
+        0,
+        1,
+        1,
+        65_537,
+        65_537,
+        2_147_483_648,
+        2_147_483_649,
+        4_294_901_761,
+        4_294_967_294,
+        4_294_967_295,
+        4_294_967_295,
+    ],
+    texts: Numbers::LONG_IDS,
+};
+
+/// The ids of calls and those of texts.
+struct Ids {
+    calls: [i64; 11],
+    texts: Numbers,
+}
+
 /// Some sixty calls on few ids, with runs of undos and now and then a text.
-fn random_sequence(recorder: &mut Recorder, random: &mut Random) {
+fn random_sequence(recorder: &mut Recorder, random: &mut Random, ids: &Ids) {
     recorder.new_desk();
     for _ in 0..random.between(20, 90) {
-        let call = random_call(random);
+        let call = random_call(random, ids);
         let times = match call {
             Call::Undo if random.percent(15) => random.between(2, 34),
             _ => 1,
@@ -448,10 +510,10 @@ fn random_sequence(recorder: &mut Recorder, random: &mut Random) {
 
 /// Some eight short texts, most of them followed by an undo, with a few calls between them and the
 /// lists written down now and then.
-fn text_sequence(recorder: &mut Recorder, random: &mut Random) {
+fn text_sequence(recorder: &mut Recorder, random: &mut Random, ids: &Ids) {
     recorder.new_desk();
     for _ in 0..random.between(4, 12) {
-        recorder.call(Call::Text(pages::short(random)));
+        recorder.call(Call::Text(pages::short(random, &ids.texts)));
         if random.percent(25) {
             recorder.lists();
         }
@@ -459,14 +521,14 @@ fn text_sequence(recorder: &mut Recorder, random: &mut Random) {
             recorder.call(Call::Undo);
         }
         for _ in 0..random.pick(&[0, 1, 3, 6]) {
-            recorder.call(random_call(random));
+            recorder.call(random_call(random, ids));
         }
     }
     recorder.lists();
 }
 
-fn random_call(random: &mut Random) -> Call {
-    let id = random.pick(&[0, 1, 1, 2, 2, 3, 3, 4, 5, 65_535, 65_536]);
+fn random_call(random: &mut Random, ids: &Ids) -> Call {
+    let id = random.pick(&ids.calls);
     let place = at(random.between(-4, 4), random.between(-4, 4));
     let list_place = random.pick(&[0, 0, 1, 2, 3, 9]);
     match random.below(100) {

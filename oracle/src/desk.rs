@@ -16,7 +16,8 @@ pub const MAX_NETS: usize = 64;
 pub const MAX_ENDS: usize = 256;
 pub const MAX_COPIES: usize = 32;
 
-pub const IDS: RangeInclusive<i64> = 1..=65_535;
+/// Document 02, S-1; document 01 has 65,535.
+pub const IDS: RangeInclusive<i64> = 1..=4_294_967_295;
 pub const COORDINATES: RangeInclusive<i64> = -4_194_304..=4_194_304;
 const DIRECTIONS: RangeInclusive<i64> = 0..=15;
 const MARKS: RangeInclusive<i64> = 0..=1;

@@ -23,7 +23,7 @@ pub enum Detail {
 }
 
 /// How many pages of each kind the fixed list has, by detail.
-const FIXED: [(Kind, usize, usize, usize); 7] = [
+const FIXED: [(Kind, usize, usize, usize); 8] = [
     (Kind::Realistic, 36, 24, 3),
     (Kind::Crossing, 30, 18, 3),
     (Kind::Dense, 80, 60, 60),
@@ -31,6 +31,7 @@ const FIXED: [(Kind, usize, usize, usize); 7] = [
     (Kind::Bars, 20, 10, 16),
     (Kind::Wide, 10, 10, 8),
     (Kind::Damaged, 60, 0, 0),
+    (Kind::LongIds, 24, 12, 4),
 ];
 
 /// The fixed list.

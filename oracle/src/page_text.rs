@@ -3,7 +3,8 @@
 use crate::desk::{Lists, Place, DONE};
 use std::fmt::Write;
 
-const MAX_LINE: usize = 64;
+/// Bytes of a line with its LF: document 02, S-1; document 01 has 64.
+const MAX_LINE: usize = 96;
 
 /// Why a text was refused: the 1-based line and the inner number, 0 if the line is malformed.
 #[derive(Debug, Clone, Copy, PartialEq, Eq)]

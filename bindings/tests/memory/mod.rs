@@ -336,7 +336,7 @@ fn are_lists(block: &[u32]) -> bool {
     let Some([boxes, ports, nets, ends]) = lists.as_deref() else {
         return false;
     };
-    let is_id = |row: &[u32]| (1..=65_535).contains(&row[0]);
+    let is_id = |row: &[u32]| row[0] != 0;
     let are_distinct = |list: &[Vec<u32>]| {
         let mut ids: Vec<_> = list.iter().map(|row| row[0]).collect();
         ids.sort_unstable();

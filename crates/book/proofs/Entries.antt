@@ -12,7 +12,7 @@ use lib.Dec.{eqb, ltb, leb}
 use borrow.Author.Tests.{eq-eqb, ne-eqb, eqb-true, le-leb, lt-ltb}
 use Rattle.fixed.proofs.Bools.{and-left, and-right}
 use Rattle.rows.specs.Rows.{key, ids, scan, isIn, without, inserted}
-use Rattle.book.specs.Book.{Record, Lists, list, withList, most, okRecord, fieldsNumber, ranged, own, belongs, okOwners, okMembers, okLists}
+use Rattle.book.specs.Book.{Record, Lists, list, withList, most, okRecord, fieldsNumberIn, ranged, own, belongs, okOwners, okMembers, okLists}
 use Rattle.book.specs.Book.{roomNumber, newNumber, knownNumber, addNumber, withRecord}
 use Rattle.book.specs.Entries.{Entry, out, back, applies, restored, noDesk, before, copies, isHeld}
 use Rattle.book.specs.declared.Kind.{Kind}
@@ -95,7 +95,7 @@ length-copies (e ∷ es) l = ap suc (length-copies es (before e l))
 
 -- ---- lists that no desk has
 pub no-desk : okLists noDesk ≡ false
-unfolding okLists okOwners scan own okRecord fieldsNumber ranged
+unfolding okLists okOwners scan own okRecord fieldsNumberIn ranged
 no-desk = refl
 
 -- an entry that leaves lists that keep the limits applies

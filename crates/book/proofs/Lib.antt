@@ -3,3 +3,4 @@ pub mod Fields
 pub mod Keeps
 pub mod Entries
 pub mod Builds
+pub mod Renamed

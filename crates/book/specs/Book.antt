@@ -50,8 +50,12 @@ most Kind.Port = PORTS
 most Kind.Net = NETS
 most Kind.End = ENDS
 
-unfoldable pub okId : ℕ → Bool
-okId id = leb 1 id && leb id IDS
+-- ids go from 1 to `top`. What is named with `In` is said of every `top`, and the same name without it of IDS
+unfoldable pub okIdIn : ℕ → ℕ → Bool
+okIdIn top id = leb 1 id && leb id top
+
+abbrev pub okId : ℕ → Bool
+okId = okIdIn IDS
 
 unfoldable pub okPlace : ℕ → ℕ → Bool
 okPlace x y = (leb LEAST x && leb x GREATEST) && (leb LEAST y && leb y GREATEST)
@@ -60,21 +64,27 @@ abbrev pub field : ℕ → Record → ℕ
 field i r = getD r i 0
 
 -- box: id, least x, least y, greatest x, greatest y. port: box id, x, y, directions. net: id. end: net id, x, y, mark
-abbrev pub okFields : Kind → Record → Bool
-okFields Kind.Box r =
-    (okId (field 0 r) && (okPlace (field 1 r) (field 2 r) && okPlace (field 3 r) (field 4 r)))
+abbrev pub okFieldsIn : ℕ → Kind → Record → Bool
+okFieldsIn top Kind.Box r =
+    (okIdIn top (field 0 r) && (okPlace (field 1 r) (field 2 r) && okPlace (field 3 r) (field 4 r)))
     && (leb (field 1 r) (field 3 r) && leb (field 2 r) (field 4 r))
-okFields Kind.Port r = (okId (field 0 r) && okPlace (field 1 r) (field 2 r)) && leb (field 3 r) 15
-okFields Kind.Net r = okId (field 0 r)
-okFields Kind.End r = (okId (field 0 r) && okPlace (field 1 r) (field 2 r)) && leb (field 3 r) 1
+okFieldsIn top Kind.Port r = (okIdIn top (field 0 r) && okPlace (field 1 r) (field 2 r)) && leb (field 3 r) 15
+okFieldsIn top Kind.Net r = okIdIn top (field 0 r)
+okFieldsIn top Kind.End r = (okIdIn top (field 0 r) && okPlace (field 1 r) (field 2 r)) && leb (field 3 r) 1
+
+abbrev pub okFields : Kind → Record → Bool
+okFields = okFieldsIn IDS
 
 -- 'Numbers handed back' 2: a field out of range
 unfoldable pub ranged : Bool → ℕ
 ranged ok = cond ok 0 2
 
 -- the number of a record's fields, and a record that a desk may hold
-unfoldable pub fieldsNumber : Kind → Record → ℕ
-fieldsNumber k r = ranged (eqb (length r) (width k) && okFields k r)
+unfoldable pub fieldsNumberIn : ℕ → Kind → Record → ℕ
+fieldsNumberIn top k r = ranged (eqb (length r) (width k) && okFieldsIn top k r)
+
+abbrev pub fieldsNumber : Kind → Record → ℕ
+fieldsNumber = fieldsNumberIn IDS
 
 unfoldable pub okRecord : Kind → Record → Bool
 okRecord k r = eqb (fieldsNumber k r) 0
@@ -163,8 +173,11 @@ unfoldable pub answer : Bool → ℕ → ℕ → ℕ
 answer sound fields n = cond sound (cond (eqb fields 0) n fields) 2
 
 -- the numbers of an addition and of a retirement on a sound desk; a reading adds its records so
-unfoldable pub takeNumber : Kind → Record → Lists → ℕ
-takeNumber k r l = answer true (fieldsNumber k r) (addNumber k l (key r))
+unfoldable pub takeNumberIn : ℕ → Kind → Record → Lists → ℕ
+takeNumberIn top k r l = answer true (fieldsNumberIn top k r) (addNumber k l (key r))
+
+abbrev pub takeNumber : Kind → Record → Lists → ℕ
+takeNumber = takeNumberIn IDS
 
 unfoldable pub leaveNumber : Kind → ℕ → Lists → ℕ
 leaveNumber k name l = answer true (nameNumber k name) (retireNumber k l name)

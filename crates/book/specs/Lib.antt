@@ -1,3 +1,4 @@
 pub mod Sizes
 pub mod Book
 pub mod Entries
+pub mod Renamed

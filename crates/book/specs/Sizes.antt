@@ -1,10 +1,11 @@
--- 01, 'Limits': ids, how many records a list holds, and how many changes can be undone. A record is a row of words, its fields.
+-- 01, 'Limits', and 02, S-1: ids, how many records a list holds, and how many changes can be undone. A record is a row of words, its fields.
 use Prim.Native.Nat.{ℕ}
 
--- ids 1 to 65,535; 32 copies on the pile
+-- 02, S-1: ids go from 1 to 4,294,967,295
 abbrev pub IDS : ℕ
-IDS = 65535
+IDS = 4294967295
 
+-- copies on the pile
 abbrev pub COPIES : ℕ
 COPIES = 32
 

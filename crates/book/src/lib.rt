@@ -1,5 +1,5 @@
 // What the clue desk keeps of 01: the kinds of records and the limits. The definitions and their laws are in specs/ and proofs/; there is no function here.
-pub const IDS: u32 = 65535;
+pub const IDS: u32 = 4294967295;
 
 pub const COPIES: u32 = 32;
 

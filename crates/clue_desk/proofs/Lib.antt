@@ -1,3 +1,4 @@
 pub mod Rest
 pub mod Demand
 mod Called
+pub mod Renamed

@@ -23,7 +23,7 @@ use Rattle.desk.proofs.Decode.{ready-emptied}
 use Rattle.page_line.specs.Records.{Line, entry, malformed}
 use Rattle.page_line.specs.Lines.{textLines}
 use Rattle.page_line.proofs.Wide.{Wide, AllWide, wide-lines}
-use Rattle.page_text.specs.Reading.{takes}
+use Rattle.page_text.specs.Reading.{takesIn, takes}
 use Rattle.page_text.specs.Words.{leaves, onwardWords, feedWords, textWords, isLent, readWords, REFUSAL}
 use Rattle.page_text.specs.declared.Step.{Step}
 use Rattle.page_text.specs.declared.Step.the-variants.{Went, Bad}
@@ -53,7 +53,7 @@ module _ (k : Kind) (r : Record) (ws : List ℕ) (ready : Ready ws) (hw : length
       (Parts.put-rest 1 BLOCK (withRow k r (block ws)) ws (counted-with k (block ws) (ready .counted) r hw has-room .long) (omega arith) DESK (omega arith))
 
 rest-line : (x : Line) (ws : List ℕ) → Ready ws → Wide x → takes x (listsOf (block ws)) ≡ Went → drop DESK (leaves x ws) ≡ drop DESK ws
-unfolding takes
+unfolding takesIn
 rest-line (entry k r) ws ready hw t = rest-taken k r ws ready hw (step-0 (takeNumber k r (listsOf (block ws))) t)
 rest-line malformed ws ready hw t = bad-went 0 t
 

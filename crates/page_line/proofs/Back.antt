@@ -21,7 +21,7 @@ use Rattle.page_line.specs.Records.{Line, entry, name, sorts, kindOf, sh
 use Rattle.page_line.specs.declared.Found.the-variants.{Of}
 use Rattle.page_line.specs.declared.Sort.{Sort}
 use Rattle.page_line.specs.declared.Sort.the-variants.{Ident, Step, Small}
-use Rattle.page_line.specs.Lines.{LINE, ended, linesOf, textLines}
+use Rattle.page_line.specs.Lines.{LINE, endedIn, ended, linesOf, textLinesIn, textLines}
 use Rattle.page_line.specs.Write.{text, texts, lineText}
 use Rattle.page_line.proofs.Shapes.{length-values}
 use Rattle.page_line.proofs.Lines.{lines-cons}
@@ -139,7 +139,7 @@ module _ (k : Kind) (ws : List ℕ) (h : length ws ≡ length (sorts k)) (f : al
       rw (kind-name k, eq-eqb (length (values (texts (sorts k) ws))) (length (sorts k)) l, texts-row (sorts k) ws h f)
 
   body-ended : ended body ≡ entry k ws
-  unfolding ended lineOf recordOf body
+  unfolding endedIn lineOf recordOf body
   body-ended =
       let l = texts-short (sorts k) ws f in
       let n = length-append (name k) (tabbed (texts (sorts k) ws)) in
@@ -153,7 +153,7 @@ module _ (k : Kind) (ws : List ℕ) (h : length ws ≡ length (sorts k)) (f : al
 
   -- a record's line before any text
   pub line-back : (rest : List ℕ) → textLines (lineText k ws ++ rest) ≡ entry k ws ∷ textLines rest
-  unfolding textLines lineText body
+  unfolding textLinesIn lineText body
   line-back rest =
       let j : (name k ++ (tabbed (texts (sorts k) ws) ++ (LF ∷ []))) ++ rest ≡ body ++ (LF ∷ rest) = simp append-assoc in
       let c : clean LF body ≡ true =

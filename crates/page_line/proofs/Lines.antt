@@ -12,7 +12,7 @@ use Rattle.decimals.specs.Bytes.{LF, split, place}
 use Rattle.decimals.specs.Decimal.{isEmpty}
 use Rattle.decimals.proofs.Split.{place-le, split-cut, split-last}
 use Rattle.page_line.specs.Records.{Line, malformed, lineOf}
-use Rattle.page_line.specs.Lines.{LINE, ended, linesOf, lineAt}
+use Rattle.page_line.specs.Lines.{LINE, endedIn, ended, linesIn, linesOf, lineAt}
 use Rattle.page_line.proofs.Shapes.{head-split}
 
 -- the three answers for a line
@@ -22,15 +22,15 @@ at-none text at e h = rw (eq-eqb e (length text) h)
 
 pub at-line : (text : List ℕ) (at e k : ℕ) → (e ≡ length text → ⊥) → length (take (e - at) (drop at text)) ≡ k → k < LINE
     → lineOf (take (e - at) (drop at text)) ≡ lineAt text at e
-unfolding lineAt ended
+unfolding lineAt endedIn
 at-line text at e k h hk h′ = rw (ne-eqb e (length text) h, hk, lt-ltb k LINE h′)
 
 pub at-long : (text : List ℕ) (at e k : ℕ) → (e ≡ length text → ⊥) → length (take (e - at) (drop at text)) ≡ k → LINE ≤ k → malformed ≡ lineAt text at e
-unfolding lineAt ended
+unfolding lineAt endedIn
 at-long text at e k h hk h′ = rw (ne-eqb e (length text) h, hk, le-ltb k LINE h′)
 
 pub lines-cons : (p : List ℕ) (s : ℕ) (xs : List ℕ) → linesOf (p ∷ split s xs) ≡ ended p ∷ linesOf (split s xs)
-unfolding linesOf
+unfolding linesIn
 lines-cons p s xs = rw (head-split s xs)
 
 not-empty : (xs : List ℕ) → 0 < length xs → isEmpty xs ≡ false
@@ -40,7 +40,7 @@ not-empty (x ∷ xs) h = refl
 
 lines-last : (text : List ℕ) (at e : ℕ) → e ≡ length text → split LF (drop at text) ≡ drop at text ∷ [] → 0 < length (drop at text)
     → linesOf (split LF (drop at text)) ≡ lineAt text at e ∷ linesOf (split LF (drop (e + 1) text))
-unfolding linesOf lineAt split isEmpty
+unfolding linesIn lineAt split isEmpty
 lines-last text at e g s h =
     let d : drop (e + 1) text ≡ [] = drop-of-length-le text {i = e + 1} (omega arith) in
     rw (s, d, eq-eqb e (length text) g, not-empty (drop at text) h)

@@ -15,7 +15,7 @@ use Rattle.book.specs.declared.Kind.{Kind}
 use Rattle.book.specs.Book.{width}
 use Rattle.page_line.specs.Fields.{allPlain, values, rowOf}
 use Rattle.page_line.specs.Records.{Line, entry, malformed, Told, kindIn, rowIn, kindOf, lineOf, recordOf, shape, sorts}
-use Rattle.page_line.specs.Lines.{LINE, ended, lineAt, linesOf, textLines}
+use Rattle.page_line.specs.Lines.{LINE, endedIn, ended, lineAt, linesIn, linesOf, textLinesIn, textLines}
 use Rattle.page_line.specs.declared.Found.{Found}
 use Rattle.page_line.specs.declared.Found.the-variants.{Of, Malformed}
 use Rattle.page_line.proofs.Rows.{row-length, sorts-width}
@@ -41,7 +41,7 @@ wide-record [] = refl
 wide-record (w ∷ fs) = wide-cond (allPlain fs) (shape (kindOf w) (values fs)) malformed (λ e. wide-shape (kindOf w) (values fs)) refl
 
 wide-ended : (p : List ℕ) → Wide (ended p)
-unfolding ended lineOf
+unfolding endedIn lineOf
 wide-ended p = wide-cond (ltb (length p) LINE) (recordOf (split TAB p)) malformed (λ e. wide-record (split TAB p)) refl
 
 pub wide-at : (text : List ℕ) (at e : ℕ) → Wide (lineAt text at e)
@@ -85,7 +85,7 @@ AllWide [] = _≡_ {A = ℕ} 0 0
 AllWide (x ∷ xs) = Wide x × AllWide xs
 
 wide-pieces : (ps : List (List ℕ)) → AllWide (linesOf ps)
-unfolding linesOf
+unfolding linesIn
 wide-pieces [] = refl
 wide-pieces (p ∷ []) = go (isEmpty p)
   where
@@ -95,5 +95,5 @@ wide-pieces (p ∷ []) = go (isEmpty p)
 wide-pieces (p ∷ q ∷ ps) = (wide-ended p, wide-pieces (q ∷ ps))
 
 pub wide-lines : (text : List ℕ) → AllWide (textLines text)
-unfolding textLines
+unfolding textLinesIn
 wide-lines text = wide-pieces (split LF text)

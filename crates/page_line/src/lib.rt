@@ -22,7 +22,7 @@ const MOST: usize = 12;
 pub const ROW: usize = 5;
 
 // The longest line, its LF included.
-pub const LINE: usize = 64;
+pub const LINE: usize = 96;
 
 // What a line was found to be: a record of a kind, or malformed.
 pub enum Found {

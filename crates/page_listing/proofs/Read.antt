@@ -3,13 +3,14 @@ use mathlib.Core.Path.{_≡_, sym, ap, _∙_}
 use mathlib.Core.Bool.{Bool, true}
 use mathlib.Core.List.{List, []}
 use Prim.Native.Nat.{ℕ, _≤_}
-use borrow.Author.Tests.{le-leb, eq-eqb, ne-eqb}
+use borrow.Author.Tests.{eq-eqb, ne-eqb}
 use lib.ListN.{length, getD}
 use Rattle.desk.specs.Sizes.{DESK}
 use Rattle.book.specs.Book.{bookWith, Book, valid}
 use Rattle.desk.specs.Desk.{bookOf}
 use Rattle.page_text.specs.Reading.{readText}
 use Rattle.page_text.specs.Words.{REFUSAL, isLent, readNumber, readWords, readRefusal, told}
+use Rattle.page_text.proofs.Told.{both-lent}
 use Rattle.page_text.proofs.Turns.{decoded}
 use Rattle.page_text.proofs.Limits.{ok-text, valid-lists}
 use Rattle.decimals.specs.Write.{Put}
@@ -19,8 +20,7 @@ use Rattle.page_listing.specs.Printed.{pagePrinted, readPrinted, printed
 module _ (text ws out : List ℕ) (long : DESK ≤ length ws) (two : REFUSAL ≤ length out) (n : ℕ) (ws₁ out₁ : List ℕ) (is : n ≡ readNumber text ws out) (leaves : ws₁ ≡ readWords text ws out)
     (tells : out₁ ≡ readRefusal text ws out) where
   lent : isLent ws out ≡ true
-  unfolding isLent
-  lent = rw (le-leb DESK (length ws) long, le-leb REFUSAL (length out) two)
+  lent = both-lent ws out long two
 
   number-is : n ≡ readText text .number
   unfolding readNumber

@@ -18,8 +18,8 @@ ghost use Rattle.page_listing.specs.Printed.{ROOM, pageOn, pagePrinted, 
 // The bytes that are printed of a page at most.
 pub const ROOM: usize = 29696;
 
-// The bytes of a text that decide: at most 640 lines of 64 bytes go, and the next one is refused.
-pub const TEXT: usize = 41024;
+// The bytes of a text that decide: at most 640 lines of 96 bytes go, and the next one is refused.
+pub const TEXT: usize = 61536;
 
 // Prints the nets of a desk as they are laid out.
 fn print_laid(

@@ -14,15 +14,15 @@ use Rattle.decimals.specs.Decimal.{BASE, isEmpty}
 use Rattle.rows.specs.Rows.{key}
 use Rattle.book.specs.declared.Kind.{Kind}
 use Rattle.book.specs.Sizes.{IDS}
-use Rattle.book.specs.Book.{Record, Lists, width, okId, okPlace, field, okFields, fieldsNumber, okRecord, addNumber, takeNumber, withRecord, Item, items, inOrder}
+use Rattle.book.specs.Book.{Record, Lists, width, okIdIn, okId, okPlace, field, okFields, fieldsNumber, okRecord, addNumber, takeNumberIn, withRecord, Item, items, inOrder}
 use Rattle.book.proofs.Fields.{record-long, record-ranged, record-0, answer-n}
 use Rattle.book.proofs.Builds.{Builds, none, one, builds}
 use Rattle.page_line.specs.Records.{Line, entry}
-use Rattle.page_line.specs.Lines.{linesOf, textLines}
+use Rattle.page_line.specs.Lines.{linesIn, textLinesIn, textLines}
 use Rattle.page_line.specs.Write.{lineText}
 use Rattle.page_line.proofs.Rows.{sorts-width}
 use Rattle.page_line.proofs.Back.{allFit, line-back}
-use Rattle.page_text.specs.Reading.{stepOf, takes, adds, linesText, pageText}
+use Rattle.page_text.specs.Reading.{stepOf, takesIn, takes, adds, linesText, pageText}
 use Rattle.page_text.specs.Law.{Goes, none as none-goes, one as one-goes, RoundTrip}
 use Rattle.page_text.specs.declared.Step.the-variants.{Went}
 use Rattle.page_text.proofs.First.{accepts}
@@ -34,7 +34,7 @@ fit-all [] f = refl
 fit-all (x ∷ r) f = rw (lt-ltb x BASE (f 0 (omega arith))) (fit-all r (λ i h. f (suc i) (omega arith)))
 
 pub id-fits : (v : ℕ) → okId v ≡ true → v < BASE
-unfolding okId
+unfolding okIdIn
 id-fits v e = omega (arith, leb-true v IDS (and-right (leb 1 v) (leb v IDS) e))
 
 place-fits : (x y : ℕ) → okPlace x y ≡ true → (x < BASE) × (y < BASE)
@@ -116,7 +116,7 @@ abbrev lineFor : Item → Line
 lineFor i = entry (i .kind) (i .row)
 
 no-lines : textLines [] ≡ []
-unfolding textLines linesOf split isEmpty
+unfolding textLinesIn linesIn split isEmpty
 no-lines = refl
 
 lines-read : {l m : Lists} {is : List Item} → Builds l is m → textLines (itemsText is) ≡ map lineFor is
@@ -127,7 +127,7 @@ lines-read (one {i = i} {is = is} o z b) =
     ∙ ap (λ (xs : List Line). lineFor i ∷ xs) (lines-read b)
 
 went : (k : Kind) (r : Record) (l : Lists) → okRecord k r ≡ true → addNumber k l (key r) ≡ 0 → takes (entry k r) l ≡ Went
-unfolding takes stepOf takeNumber
+unfolding takesIn stepOf takeNumberIn
 went k r l o z = rw (answer-n (fieldsNumber k r) (addNumber k l (key r)) (record-0 k r o), z)
 
 lines-go : {l m : Lists} {is : List Item} → Builds l is m → Goes l (map lineFor is) m

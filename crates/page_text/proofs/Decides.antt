@@ -1,4 +1,4 @@
--- The first 641 lines of 64 bytes decide: each line that goes is a record more, and there is no room for 641.
+-- The first 641 lines of 96 bytes decide: each line that goes is a record more, and there is no room for 641.
 use mathlib.Core.Path.{_≡_, refl, sym, ap, _∙_}
 use mathlib.Core.List.{List, [], _∷_}
 use mathlib.Core.Bool.{Bool, true, false, cond}
@@ -15,9 +15,9 @@ use Rattle.book.specs.declared.Kind.{Kind}
 use Rattle.book.specs.Book.{Lists, noLists, okLists}
 use Rattle.book.proofs.Keeps.{boxes-ok, nets-ok, ports-ok, ends-ok, owners-few, members-few}
 use Rattle.page_line.specs.Records.{Line, malformed}
-use Rattle.page_line.specs.Lines.{LINE, ended, lineAt, textLines}
+use Rattle.page_line.specs.Lines.{LINE, ended, lineAt, textLinesIn, textLines}
 use Rattle.page_line.proofs.Lines.{at-none, at-long, line-first}
-use Rattle.page_text.specs.Reading.{takes, adds, refused, onward, feed, readText}
+use Rattle.page_text.specs.Reading.{takesIn, takes, adds, refused, onward, feedIn, feed, readIn}
 use Rattle.page_text.specs.Law.{TEXT, Decides}
 use Rattle.page_text.specs.declared.Step.{Step}
 use Rattle.page_text.specs.declared.Step.the-variants.{Went, Bad}
@@ -60,11 +60,11 @@ long-line xs h = go (ltb (place LF xs) (length xs)) refl
     go false q = sym (at-none xs 0 (place LF xs) (omega (arith, place-le LF xs, ltb-false (place LF xs) (length xs) q)))
 
 first-lines : (xs : List ℕ) → 0 < length xs → textLines xs ≡ lineAt xs 0 (place LF xs) ∷ textLines (drop (place LF xs + 1) xs)
-unfolding textLines
+unfolding textLinesIn
 first-lines xs h = line-first xs 0 (place LF xs) (omega arith) h
 
 long-refused : (n : ℕ) (l : Lists) (xs : List ℕ) → LINE ≤ place LF xs → feed n l (textLines xs) ≡ refused (n + 1) 0
-unfolding feed onward takes
+unfolding feedIn onward takesIn
 long-refused n l xs h = rw (first-lines xs (omega (arith, place-le LF xs)), long-line xs h)
 
 -- ---- a first line that an LF ends within the first k bytes
@@ -95,7 +95,7 @@ few l ok =
 
 -- with room for fewer than m more, m lines decide
 feed-front : (m n k : ℕ) (l : Lists) (xs : List ℕ) → okLists l ≡ true → total l + m ≡ 641 → m * LINE ≤ k → feed n l (textLines (take k xs)) ≡ feed n l (textLines xs)
-unfolding feed onward
+unfolding feedIn onward
 feed-front zero n k l xs ok t h = absurd (omega (arith, few l ok))
 feed-front (suc m) n k l xs ok t h =
     by (ltb (place LF xs) LINE) refl (ltb (place LF xs) (length xs)) refl (λ y o s. feed-front m (n + 1) (k - (place LF xs + 1)) y (drop (place LF xs + 1) xs) o s)
@@ -125,5 +125,5 @@ feed-front (suc m) n k l xs ok t h =
         on (Bad i) u f ih = refl
 
 pub decides : Decides
-unfolding readText total
+unfolding readIn total
 decides text = feed-front 641 0 TEXT noLists text none-ok refl (omega arith)

@@ -3,6 +3,7 @@ mod Steps
 pub mod Back
 pub mod Turns
 pub mod Limits
+pub mod LastYear
 pub mod Decides
-mod Told
+pub mod Told
 mod Cases

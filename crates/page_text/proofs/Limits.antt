@@ -7,7 +7,7 @@ use lib.ListN.{length}
 use lib.Dec.{eqb}
 use Rattle.rows.specs.Rows.{key, scan}
 use Rattle.desk.specs.Sizes.{DESK}
-use Rattle.book.specs.Book.{Lists, noLists, bookWith, fieldsNumber, okLists, okOwners, okMembers, okCopy, valid, addNumber, takeNumber}
+use Rattle.book.specs.Book.{Lists, noLists, bookWith, fieldsNumber, okLists, okOwners, okMembers, okCopy, valid, addNumber, takeNumberIn, takeNumber}
 use Rattle.desk.specs.Desk.{Ready, block, emptied, taken, at0}
 use Rattle.block.specs.Block.{listsOf}
 use Rattle.desk.proofs.Decode.{length-emptied, ready-emptied}
@@ -16,7 +16,7 @@ use Rattle.book.proofs.Keeps
 use Rattle.page_line.specs.Records.{Line, entry, malformed}
 use Rattle.page_line.specs.Lines.{textLines}
 use Rattle.page_line.proofs.Wide.{AllWide, wide-lines}
-use Rattle.page_text.specs.Reading.{stepOf, takes, adds, onward, feed, readText}
+use Rattle.page_text.specs.Reading.{stepOf, takesIn, takes, adds, onward, feedIn, feed, readIn, readText}
 use Rattle.page_text.specs.Words.{leaves, onwardWords, feedWords, textWords}
 use Rattle.page_text.specs.declared.Step.{Step}
 use Rattle.page_text.specs.declared.Step.the-variants.{Went, Bad}
@@ -25,7 +25,7 @@ use Rattle.page_text.proofs.Turns.{After, after, bad-went, step-0}
 -- ---- the length
 -- a line that stops the reading leaves the words as they were
 pub left-bad : (x : Line) (ws : List ℕ) (n : ℕ) → takes x (listsOf (block ws)) ≡ Bad n → leaves x ws ≡ ws
-unfolding takes leaves stepOf at0
+unfolding takesIn leaves stepOf at0
 left-bad (entry k r) ws n e = go (eqb (takeNumber k r (listsOf (block ws))) 0) e
   where
     go : (b : Bool) → cond b Went (Bad (takeNumber k r (listsOf (block ws)))) ≡ Bad n → cond b (taken k r ws) ws ≡ ws
@@ -49,7 +49,7 @@ length-text text ws h = length-feed (emptied ws) (textLines text) (ready-emptied
 
 -- ---- the limits
 pub ok-adds : (x : Line) (l : Lists) → okLists l ≡ true → takes x l ≡ Went → okLists (adds x l) ≡ true
-unfolding takes adds takeNumber
+unfolding takesIn adds takeNumberIn
 ok-adds (entry k r) l ok e =
     let p = answer-0 true (fieldsNumber k r) (addNumber k l (key r)) (step-0 (takeNumber k r l) e) in
     Keeps.ok-with l ok k r (record-of-0 k r (p .1)) (p .2)
@@ -60,7 +60,7 @@ unfolding scan okLists okOwners okMembers
 none-ok = refl
 
 ok-feed : (n : ℕ) (l : Lists) (xs : List Line) → okLists l ≡ true → okLists (feed n l xs .lists) ≡ true
-unfolding feed onward
+unfolding feedIn onward
 ok-feed n l [] ok = ok
 ok-feed n l (x ∷ xs) ok = go (takes x l) refl (ok-feed (n + 1) (adds x l) xs)
   where
@@ -70,7 +70,7 @@ ok-feed n l (x ∷ xs) ok = go (takes x l) refl (ok-feed (n + 1) (adds x l) xs)
     go (Bad k) t ih = none-ok
 
 pub ok-text : (text : List ℕ) → okLists (readText text .lists) ≡ true
-unfolding readText
+unfolding readIn
 ok-text text = ok-feed 0 noLists (textLines text) none-ok
 
 -- lists that keep their limits are a valid book

@@ -14,7 +14,7 @@ use Rattle.decimals.proofs.Written.{Copy, copy-on, copy-end, written-none}
 use Rattle.desk.specs.Sizes.{DESK}
 use Rattle.book.specs.Book.{noLists}
 use Rattle.page_line.specs.Lines.{textLines}
-use Rattle.page_text.specs.Reading.{readText}
+use Rattle.page_text.specs.Reading.{readIn, readText}
 use Rattle.page_text.specs.Words.{REFUSAL, told, isLent, readNumber, readRefusal, readWords, stopOf, textWords}
 use Rattle.page_text.specs.declared.Stop.{Stop}
 use Rattle.page_text.proofs.First.{feed-number}
@@ -55,6 +55,10 @@ module _ (start out : List ℕ) (i : ℕ) (z : Zeros start out i) where
   zero-end line inner h k = rw (all-zeros h) (store line inner (length start) k)
 
 -- ---- how reading ends
+pub both-lent : (ws out : List ℕ) → DESK ≤ length ws → REFUSAL ≤ length out → isLent ws out ≡ true
+unfolding isLent
+both-lent ws out hd hr = rw (le-leb DESK (length ws) hd, le-leb REFUSAL (length out) hr)
+
 module _ (text ws out : List ℕ) where
   none-lent : isLent ws out ≡ false → (1 ≡ readNumber text ws out) × (ws ≡ readWords text ws out) × (out ≡ readRefusal text ws out)
   unfolding readNumber readWords readRefusal
@@ -70,10 +74,6 @@ module _ (text ws out : List ℕ) where
 
   module _ (hd : DESK ≤ length ws) (hr : REFUSAL ≤ length out) (ws′ out′ : List ℕ) (s : Stop) (es : s ≡ stopOf (readText text)) (ew : ws′ ≡ textWords text ws)
       (eo : out′ ≡ told (s .line) (s .inner) (length out)) where
-    both-lent : isLent ws out ≡ true
-    unfolding isLent
-    both-lent = rw (le-leb DESK (length ws) hd, le-leb REFUSAL (length out) hr)
-
     line-is : s .line ≡ readText text .line
     unfolding stopOf
     line-is = ap (λ (t : Stop). t .line) es
@@ -84,12 +84,12 @@ module _ (text ws out : List ℕ) where
 
     ends : (n : ℕ) → n ≡ readText text .number → (n ≡ readNumber text ws out) × (ws′ ≡ readWords text ws out) × (out′ ≡ readRefusal text ws out)
     unfolding readNumber readWords readRefusal
-    ends n e = rw (both-lent) (e, ew, rw (line-is, inner-is) at eo)
+    ends n e = rw (both-lent ws out hd hr) (e, ew, rw (line-is, inner-is) at eo)
 
     pub ends-0 : s .line ≡ 0 → (0 ≡ readNumber text ws out) × (ws′ ≡ readWords text ws out) × (out′ ≡ readRefusal text ws out)
-    unfolding readText
+    unfolding readIn
     ends-0 h = ends 0 (⊎-elim (λ p. sym (p .0)) (λ p. absurd (omega (arith, line-is, p .1))) (feed-number 0 noLists (textLines text)))
 
     pub ends-16 : (s .line ≡ 0 → ⊥) → (16 ≡ readNumber text ws out) × (ws′ ≡ readWords text ws out) × (out′ ≡ readRefusal text ws out)
-    unfolding readText
+    unfolding readIn
     ends-16 h = ends 16 (⊎-elim (λ p. absurd (h (line-is ∙ p .1))) (λ p. sym (p .0)) (feed-number 0 noLists (textLines text)))

@@ -18,10 +18,10 @@ use Rattle.block.specs.Block.{area, listsOf}
 use Rattle.block.proofs.Blocks.{length-list, room-0, take-room}
 use Rattle.desk.proofs.Decode.{Settled, book-settled, book-emptied, lists-emptied, settled-emptied, lists-taken, settled-taken, length-taken, ready-emptied, ready-taken}
 use Rattle.page_line.specs.Records.{Line, entry, malformed}
-use Rattle.page_line.specs.Lines.{lineAt, linesOf, textLines}
+use Rattle.page_line.specs.Lines.{lineAt, linesIn, textLinesIn, textLines}
 use Rattle.page_line.proofs.Lines.{line-end, line-first}
 use Rattle.page_line.proofs.Wide.{Wide, AllWide, wide-at, wide-lines}
-use Rattle.page_text.specs.Reading.{stepOf, takes, adds, Reading, accepted, refused, onward, feed, readText}
+use Rattle.page_text.specs.Reading.{stepOf, takesIn, takes, adds, Reading, accepted, refused, onward, feedIn, feed, readIn, readText}
 use Rattle.page_text.specs.Words.{leaves, onwardWords, feedWords, textWords, stopOf}
 use Rattle.page_text.specs.Law.{Decoded}
 use Rattle.page_text.specs.declared.Step.{Step}
@@ -64,7 +64,7 @@ after-taken k r ws ready hw e =
     (record { ready = ready-taken k r ws ready hw room; long = length-taken k r ws ready hw room; lists = lists-taken k r ws ready hw room; settled = settled-taken k r ws ready hw room })
 
 pub after : (x : Line) (ws : List ℕ) → Ready ws → Wide x → takes x (listsOf (block ws)) ≡ Went → After x ws (leaves x ws)
-unfolding takes
+unfolding takesIn
 after (entry k r) ws ready hw e = after-taken k r ws ready hw (step-0 (takeNumber k r (listsOf (block ws))) e)
 after malformed ws ready hw e = bad-went 0 e
 
@@ -80,7 +80,7 @@ total-with Kind.Net r l = rw (length-append (l .nets) (r ∷ [])) (omega arith)
 total-with Kind.End r l = rw (length-append (l .ends) (r ∷ [])) (omega arith)
 
 pub total-adds : (x : Line) (l : Lists) → takes x l ≡ Went → total (adds x l) ≡ total l + 1
-unfolding adds takes
+unfolding adds takesIn
 total-adds (entry k r) l e = total-with k r l
 total-adds malformed l e = bad-went 0 e
 
@@ -106,7 +106,7 @@ pub lines-few : (text start ws : List ℕ) (at n : ℕ) → Read text start ws a
 lines-few text start ws at n r = omega (arith, r .few, total-few ws (r .ready))
 
 pub read-first : (text given start : List ℕ) → DESK ≤ length given → start ≡ emptied given → Read text start start 0 0
-unfolding readText total
+unfolding readIn total
 read-first text given start h e =
     record {
       inside = omega arith;
@@ -119,17 +119,17 @@ read-first text given start h e =
 
 -- ---- a turn
 bad-end : (text : List ℕ) (at e : ℕ) (l : Lists) → takes (lineAt text at e) l ≡ Went → (e ≡ length text → ⊥)
-unfolding lineAt takes
+unfolding lineAt takesIn
 bad-end text at e l w h = bad-went 0 (rw (eq-eqb e (length text) h) at w)
 
 module _ (text ws ws′ start : List ℕ) (at e n : ℕ) (s : Step) (r : Read text start ws at n) (found : e ≡ at + place LF (drop at text)) (h : at < length text)
     (es : s ≡ takes (lineAt text at e) (listsOf (block ws))) (ew : ws′ ≡ leaves (lineAt text at e) ws) where
   rest : textLines (drop at text) ≡ lineAt text at e ∷ textLines (drop (e + 1) text)
-  unfolding textLines
+  unfolding textLinesIn
   rest = line-first text at e found h
 
   lists-here : readText text ≡ onward s (n + 1) (feed (n + 1) (adds (lineAt text at e) (listsOf (block ws))) (textLines (drop (e + 1) text)))
-  unfolding feed
+  unfolding feedIn
   lists-here = sym (r .lists) ∙ ap (feed n (listsOf (block ws))) rest ∙ rw (← es)
 
   words-here : feedWords start (textLines text) ≡ onwardWords s ws′ (feedWords ws′ (textLines (drop (e + 1) text)))
@@ -157,12 +157,12 @@ module _ (text ws ws′ start : List ℕ) (at e n : ℕ) (s : Step) (r : Read te
   turn-bad k g = (lists-here ∙ rw g, words-here ∙ rw g)
 
 no-more : (text : List ℕ) (at : ℕ) → length text ≤ at → textLines (drop at text) ≡ []
-unfolding textLines linesOf split isEmpty
+unfolding textLinesIn linesIn split isEmpty
 no-more text at h = rw (drop-of-length-le text h)
 
 pub turn-end : (text ws start : List ℕ) (at n : ℕ) → Read text start ws at n → length text ≤ at
     → (readText text ≡ accepted (listsOf (block ws))) × (feedWords start (textLines text) ≡ ws)
-unfolding feed feedWords
+unfolding feedIn feedWords
 turn-end text ws start at n r h =
     let e = no-more text at h in
     (sym (r .lists) ∙ ap (feed n (listsOf (block ws))) e, sym (r .words) ∙ ap (feedWords ws) e)
@@ -184,7 +184,7 @@ stop-at n k = refl
 -- ---- the words hold the lists that were read
 feed-decoded : (n : ℕ) (ws : List ℕ) (xs : List Line) → Ready ws → AllWide xs → Settled ws
     → bookOf (feedWords ws xs) ≡ bookWith (feed n (listsOf (block ws)) xs .lists)
-unfolding feed feedWords onward onwardWords
+unfolding feedIn feedWords onward onwardWords
 feed-decoded n ws [] ready w e = book-settled ws e
 feed-decoded n ws (x ∷ xs) ready w e = go (takes x (listsOf (block ws))) refl (λ a p. feed-decoded (n + 1) (leaves x ws) xs (a .ready) (w .1) p)
   where
@@ -200,7 +200,7 @@ feed-decoded n ws (x ∷ xs) ready w e = go (takes x (listsOf (block ws))) refl 
     go (Bad k) t ih = book-emptied (leaves x ws)
 
 pub decoded : Decoded
-unfolding textWords readText
+unfolding textWords readIn
 decoded text ws h =
     feed-decoded 0 (emptied ws) (textLines text) (ready-emptied ws h) (wide-lines text) (settled-emptied ws)
     ∙ ap (λ (l : Lists). bookWith (feed 0 l (textLines text) .lists)) (lists-emptied ws)

@@ -55,7 +55,7 @@ Decoded = (text ws : List ℕ) → DESK ≤ length ws → bookOf (textWords text
 abbrev pub RoundTrip : Type 0
 RoundTrip = (l : Lists) → okLists l ≡ true → readText (pageText l) ≡ accepted l
 
--- 01, 'Limits': at most 640 records fit, and a line has at most 64 bytes, so that what stands behind 641 such lines has no say
+-- 01, 'Limits', and 02, S-1: at most 640 records fit, and a line has at most 96 bytes, so that what stands behind 641 such lines has no say
 abbrev pub TEXT : ℕ
 TEXT = 641 * LINE
 

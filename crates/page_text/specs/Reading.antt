@@ -5,9 +5,10 @@ use mathlib.Core.List.{List, [], _∷_, _++_}
 use mathlib.Core.Bool.{cond}
 use lib.Dec.{eqb}
 use Rattle.book.specs.declared.Kind.{Kind}
-use Rattle.book.specs.Book.{Record, Lists, noLists, takeNumber, withRecord}
+use Rattle.book.specs.Sizes.{IDS}
+use Rattle.book.specs.Book.{Record, Lists, noLists, takeNumberIn, withRecord}
 use Rattle.page_line.specs.Records.{Line, entry, malformed}
-use Rattle.page_line.specs.Lines.{textLines}
+use Rattle.page_line.specs.Lines.{LINE, textLinesIn}
 use Rattle.page_line.specs.Write.{lineText}
 use Rattle.page_text.specs.declared.Step.{Step}
 use Rattle.page_text.specs.declared.Step.the-variants.{Went, Bad}
@@ -16,9 +17,12 @@ use Rattle.page_text.specs.declared.Step.the-variants.{Went, Bad}
 unfoldable pub stepOf : ℕ → Step
 stepOf n = cond (eqb n 0) Went (Bad n)
 
-unfoldable pub takes : Line → Lists → Step
-takes (entry k r) l = stepOf (takeNumber k r l)
-takes malformed l = Bad 0
+unfoldable pub takesIn : ℕ → Line → Lists → Step
+takesIn top (entry k r) l = stepOf (takeNumberIn top k r l)
+takesIn top malformed l = Bad 0
+
+abbrev pub takes : Line → Lists → Step
+takes = takesIn IDS
 
 -- the lists with a line's record put last
 unfoldable pub adds : Line → Lists → Lists
@@ -43,12 +47,19 @@ onward Went line rest = rest
 onward (Bad inner) line rest = refused line inner
 
 -- the lines behind the first n
-unfoldable pub feed : ℕ → Lists → List Line → Reading
-feed n l [] = accepted l
-feed n l (x ∷ xs) = onward (takes x l) (n + 1) (feed (n + 1) (adds x l) xs)
+unfoldable pub feedIn : ℕ → ℕ → Lists → List Line → Reading
+feedIn top n l [] = accepted l
+feedIn top n l (x ∷ xs) = onward (takesIn top x l) (n + 1) (feedIn top (n + 1) (adds x l) xs)
 
-unfoldable pub readText : List ℕ → Reading
-readText text = feed 0 noLists (textLines text)
+abbrev pub feed : ℕ → Lists → List Line → Reading
+feed = feedIn IDS
+
+-- a text, where a line has at most `line` bytes and ids go to `top`; 02, S-1: LINE and IDS
+unfoldable pub readIn : ℕ → ℕ → List ℕ → Reading
+readIn line top text = feedIn top 0 noLists (textLinesIn line text)
+
+abbrev pub readText : List ℕ → Reading
+readText = readIn LINE IDS
 
 -- lists as a page text, in kept order: boxes, ports, nets, ends
 unfoldable pub linesText : Kind → List Record → List ℕ

@@ -4,7 +4,7 @@
 --     box-fields, port-fields, ..      coordinates are fields
 --     box-order                        least is at most greatest
 --     port-dirs, end-marks             directions at most 15, marks at most 1
---     port-words, end-words            every word is below what the greatest field is below
+--     port-words, end-words            every word is below what the greatest id is below
 use mathlib.Core.Path.{_≡_, refl, sym, ap, _∙_}
 use mathlib.Core.List.{List, [], _∷_}
 use mathlib.Core.Bool.{Bool, true, _&&_}
@@ -17,7 +17,7 @@ use Rattle.fixed.specs.Constants.{LEAST, GREATEST}
 use Rattle.fixed.proofs.Bools.{and-left, and-right}
 use Rattle.rows.proofs.Rows.{row-in}
 use Rattle.book.specs.Sizes.{IDS}
-use Rattle.book.specs.Book.{Record, Lists, width, okId, okPlace, okFields, okRecord, okLists}
+use Rattle.book.specs.Book.{Record, Lists, width, okIdIn, okId, okPlace, okFields, okRecord, okLists}
 use Rattle.book.specs.declared.Kind.{Kind}
 use Rattle.book.proofs.Fields.{record-ranged}
 use Rattle.book.proofs.Keeps.{boxes-ok, nets-ok, ports-ok, ends-ok, owners-few, owners-scan, members-few, members-scan}
@@ -69,7 +69,7 @@ module _ (r : Record) (top : ℕ) (e : (okId (getD r 0 0) && okPlace (getD r 1 0
   point-at = placed (getD r 1 0) (getD r 2 0) (and-right (okId (getD r 0 0)) _ (and-left (okId (getD r 0 0) && okPlace (getD r 1 0) (getD r 2 0)) _ e))
 
   point-id : getD r 0 0 ≤ IDS
-  unfolding okId
+  unfolding okIdIn
   point-id =
       let t = and-left (okId (getD r 0 0)) _ (and-left (okId (getD r 0 0) && okPlace (getD r 1 0) (getD r 2 0)) _ e) in
       leb-true (getD r 0 0) IDS (and-right (leb 1 (getD r 0 0)) _ t)
@@ -78,7 +78,7 @@ module _ (r : Record) (top : ℕ) (e : (okId (getD r 0 0) && okPlace (getD r 1 0
   point-last = leb-true (getD r 3 0) top (and-right (okId (getD r 0 0) && okPlace (getD r 1 0) (getD r 2 0)) _ e)
 
   -- each of the four fields
-  point-low : (m : ℕ) → GREATEST < m → top < m → (j : ℕ) → j < 4 → getD r j 0 < m
+  point-low : (m : ℕ) → IDS < m → top < m → (j : ℕ) → j < 4 → getD r j 0 < m
   point-low m h t zero l = omega (arith, point-id)
   point-low m h t (suc zero) l = omega (arith, point-at .0 .greatest)
   point-low m h t (suc (suc zero)) l = omega (arith, point-at .1 .greatest)
@@ -183,10 +183,10 @@ module _ (l : Lists) (ok : okLists l ≡ true) where
   pub end-y : Fields (flat (l .ends)) ROW 2 (length (l .ends))
   end-y = coordinates Kind.End (l .ends) ends 2 (omega arith) (λ r e. point-at r 1 (record-ranged Kind.End r e) .1)
 
-  pub port-words : (m : ℕ) → GREATEST < m → (k : ℕ) → getD (flat (l .ports)) k 0 < m
+  pub port-words : (m : ℕ) → IDS < m → (k : ℕ) → getD (flat (l .ports)) k 0 < m
   port-words m h k = words-low Kind.Port m (omega arith) (λ r e j g. point-low r 15 (record-ranged Kind.Port r e) m h (omega arith) j g) ports k
 
-  pub end-words : (m : ℕ) → GREATEST < m → (k : ℕ) → getD (flat (l .ends)) k 0 < m
+  pub end-words : (m : ℕ) → IDS < m → (k : ℕ) → getD (flat (l .ends)) k 0 < m
   end-words m h k = words-low Kind.End m (omega arith) (λ r e j g. point-low r 1 (record-ranged Kind.End r e) m h (omega arith) j g) ends k
 
   pub end-marks : (i : ℕ) → i < length (l .ends) → getD (flat (l .ends)) (i * ROW + 3) 0 ≤ 1

@@ -266,7 +266,7 @@ fn ids_live_or_unknown() -> Vec<Case> {
 
 /// Each field of a record that comes back, past its range; boxes with least above greatest.
 fn fields_out_of_range() -> Vec<Case> {
-    const NO_IDS: [u32; 3] = [0, GREATEST_ID + 1, u32::MAX];
+    const NO_IDS: [u32; 1] = [0];
     const NO_STEPS: [u32; 4] = [LEAST - 1, GREATEST + 1, 0, u32::MAX];
     let fields: [(Kind, usize, &[u32]); 16] = [
         (Kind::Box, 0, &NO_IDS),
@@ -398,7 +398,7 @@ fn bad_lists() -> Vec<Case> {
         field(Kind::Port, 1, LEAST - 1),
         field(Kind::Port, 3, 16),
         field(Kind::Net, 0, 1),
-        field(Kind::Net, 0, GREATEST_ID + 1),
+        field(Kind::Net, 0, 0),
         field(Kind::End, 0, 3),
         field(Kind::End, 2, GREATEST + 1),
         field(Kind::End, 3, 2),
@@ -417,6 +417,7 @@ fn harmless() -> Vec<Case> {
     let narrow = [Kind::Port, Kind::Net, Kind::End];
     cases.extend(narrow.map(|kind| Case::new(retired(kind), filled(unused(ROW + kind.width())))));
     cases.extend(at_the_limits());
+    cases.extend(ids_alike());
     cases
 }
 
@@ -476,6 +477,20 @@ fn at_the_limits() -> Vec<Case> {
         ),
     ];
     places.into_iter().chain(fields).collect()
+}
+
+/// The second box, the second net, there or coming back, with an id that is alike to the first one's
+/// in its low 16 or 31 bits.
+fn ids_alike() -> Vec<Case> {
+    let cases = [Kind::Box, Kind::Net].into_iter().flat_map(|kind| {
+        [65_537, 2_147_483_649].into_iter().flat_map(move |id| {
+            [
+                Case::new(records(), [(kind.row(1), id)]),
+                Case::new(retired(kind), [(entry(0) + ROW, id)]),
+            ]
+        })
+    });
+    cases.collect()
 }
 
 /// Reading takes any words.

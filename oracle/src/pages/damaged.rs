@@ -6,21 +6,25 @@ use crate::random::Random;
 /// One text for each malformation and each inner number that a few lines can meet.
 pub fn malformations() -> Vec<(String, Vec<u8>)> {
     let mut texts = Vec::new();
-    let mut add = |group: &str, cases: &[&str]| {
+    let add = |texts: &mut Vec<_>, group: &str, cases: &[&str]| {
         for (index, case) in cases.iter().enumerate() {
             texts.push((format!("{group}-{}", index + 1), case.as_bytes().to_vec()));
         }
     };
-    add("word", &WORDS);
-    add("fields", &FIELD_COUNTS);
-    add("decimal", &DECIMALS);
-    add("line", &LINES);
-    add("range", &RANGES);
-    add("live", &LIVE);
-    add("unknown", &UNKNOWN);
-    add("first", &FIRST_CONDITION);
+    add(&mut texts, "word", &WORDS);
+    add(&mut texts, "fields", &FIELD_COUNTS);
+    add(&mut texts, "decimal", &DECIMALS);
+    add(&mut texts, "line", &LINES);
+    add(&mut texts, "range", &RANGES);
+    add(&mut texts, "live", &LIVE);
+    add(&mut texts, "unknown", &UNKNOWN);
+    add(&mut texts, "first", &FIRST_CONDITION);
     texts.push(("line-bytes".into(), b"net\t1\n\xFFnet\t2\n".to_vec()));
     texts.push(("line-nul".into(), b"net\t1\0\n".to_vec()));
+    add(&mut texts, "id", &LONG_IDS);
+    for (index, case) in line_lengths().into_iter().enumerate() {
+        texts.push((format!("length-{}", index + 1), case.into_bytes()));
+    }
     texts
 }
 
@@ -71,7 +75,7 @@ const LINES: [&str; 8] = [
     "net\t1\nnet\t2",
     "net\t1\r\n",
     "net\t1\nnet\t2\r\n",
-    // 64 bytes are well formed and out of range, 65 are malformed.
+    // 64 bytes, 65 and 64; 64 without an LF.
     "net\t11111111111111111111111111111111111111111111111111111111111\n",
     "net\t111111111111111111111111111111111111111111111111111111111111\n",
     "net\t-1111111111111111111111111111111111111111111111111111111111\n",
@@ -133,6 +137,39 @@ const FIRST_CONDITION: [&str; 7] = [
     "nets\nnet\t0\n",
     "net\t1\nnet\t1\nnet\t01\n",
 ];
+
+/// Ids past 65,535: at and past the limit, and different ones that are alike in their low bits.
+const LONG_IDS: [&str; 14] = [
+    "net\t2147483647\nnet\t2147483648\nnet\t4294967295\n",
+    "net\t4294967296\n",
+    "net\t9999999999\n",
+    "net\t-4294967295\n",
+    "net\t04294967295\n",
+    "box\t4294967295\t0\t0\t9\t9\nport\t4294967295\t0\t0\t15\n",
+    "box\t4294967296\t0\t0\t0\t0\n",
+    "box\t1\t0\t0\t0\t0\nport\t4294967297\t0\t0\t0\n",
+    "net\t1\nend\t4294967297\t0\t0\t0\n",
+    "net\t1\nnet\t65537\nnet\t2147483649\nnet\t1\n",
+    "box\t65537\t0\t0\t0\t0\nport\t1\t0\t0\t0\n",
+    "net\t65537\nend\t1\t0\t0\t0\n",
+    "net\t1\nend\t65537\t0\t0\t0\n",
+    "net\t4294967295\nnet\t4294967295\n",
+];
+
+/// Lines of 95, 96 and 97 bytes; of 96, negative and without an LF; of 96 and 97 with a coordinate.
+fn line_lengths() -> [String; 7] {
+    let net = |digits: usize| format!("net\t{}\n", "1".repeat(digits));
+    let end = |digits: usize| format!("net\t1\nend\t1\t0\t{}\t0\n", "1".repeat(digits));
+    [
+        net(90),
+        net(91),
+        net(92),
+        format!("net\t-{}\n", "1".repeat(90)),
+        format!("net\t{}", "1".repeat(92)),
+        end(85),
+        end(86),
+    ]
+}
 
 /// A dense page with one to three faults.
 pub fn damaged(random: &mut Random) -> Vec<u8> {

@@ -1,7 +1,8 @@
 //! Pages at each limit of document 01 and just past it.
 
+use super::long_ids::renamed;
 use super::UNIT;
-use crate::desk::{Lists, Place};
+use crate::desk::{Lists, Place, IDS};
 use crate::page_text;
 
 /// Where a box stands out of the way of everything.
@@ -30,7 +31,9 @@ pub fn limits() -> Vec<(String, Vec<u8>)> {
     add("vertices-past-512-and-one-node-line", &over_then_one_node());
     add("net-ends-4096", &comb(63, 63));
     add("net-ends-4097", &comb(64, 63));
-    add("edges-of-range", &edges_of_range());
+    add("edges-of-range", &edges_of_range(65_535));
+    add("edges-of-range-long-ids", &edges_of_range(*IDS.end()));
+    add("records-640-long-ids", &renamed(all_lists_full()));
 
     let overfull = [
         ("boxes-65", "box\t999\t0\t0\t0\t0\n"),
@@ -218,16 +221,16 @@ fn comb(width: i64, height: i64) -> Lists {
 }
 
 /// A box over the whole range and ends in its corners.
-fn edges_of_range() -> Lists {
+fn edges_of_range(id: i64) -> Lists {
     const EDGE: i64 = 4_194_304;
     let (min, max) = (Place::new(-EDGE, -EDGE), Place::new(EDGE, EDGE));
     let mut lists = Lists::default();
-    lists.add_box(65_535, min, max);
-    lists.add_port(65_535, min, 15);
-    lists.add_port(65_535, max, 15);
-    lists.add_net(65_535);
-    lists.add_end(65_535, min, 1);
-    lists.add_end(65_535, max, 1);
+    lists.add_box(id, min, max);
+    lists.add_port(id, min, 15);
+    lists.add_port(id, max, 15);
+    lists.add_net(id);
+    lists.add_end(id, min, 1);
+    lists.add_end(id, max, 1);
     lists.add_net(1);
     lists.add_end(1, Place::new(-EDGE, EDGE), 0);
     lists.add_end(1, Place::new(EDGE, -EDGE), 0);

@@ -3,6 +3,7 @@
 mod damaged;
 mod dense;
 mod limits;
+mod long_ids;
 mod realistic;
 mod samples;
 mod short;
@@ -11,7 +12,7 @@ pub use damaged::malformations;
 pub use limits::limits;
 pub use realistic::realistic_of;
 pub use samples::samples;
-pub use short::short;
+pub use short::{short, Numbers};
 
 use crate::desk::{Lists, Place};
 use crate::page_text;
@@ -36,10 +37,12 @@ pub enum Kind {
     Wide,
     /// A good text with a fault put in.
     Damaged,
+    /// Ids past 65,535, that are alike in their low 16 bits.
+    LongIds,
 }
 
 impl Kind {
-    pub const ALL: [Self; 7] = [
+    pub const ALL: [Self; 8] = [
         Self::Realistic,
         Self::Crossing,
         Self::Dense,
@@ -47,6 +50,7 @@ impl Kind {
         Self::Bars,
         Self::Wide,
         Self::Damaged,
+        Self::LongIds,
     ];
 
     /// The kinds in the shares in which comparisons at scale take them.
@@ -56,7 +60,8 @@ impl Kind {
             5..=7 => Self::Crossing,
             8..=13 => Self::Dense,
             14..=15 => Self::Tight,
-            16..=17 => Self::Bars,
+            16 => Self::Bars,
+            17 => Self::LongIds,
             18 => Self::Wide,
             _ => Self::Damaged,
         }
@@ -71,6 +76,7 @@ impl Kind {
             Self::Bars => "bars",
             Self::Wide => "wide",
             Self::Damaged => "damaged",
+            Self::LongIds => "long-ids",
         }
     }
 }
@@ -86,6 +92,7 @@ pub fn page(kind: Kind, seed: u64) -> Vec<u8> {
         Kind::Bars => dense::bars(random),
         Kind::Wide => dense::wide(random),
         Kind::Damaged => return damaged::damaged(random),
+        Kind::LongIds => long_ids::long_ids(random),
     };
     page_text::write(&lists).into_bytes()
 }

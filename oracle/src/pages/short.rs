@@ -4,14 +4,50 @@ use crate::desk::{Lists, Place, DONE};
 use crate::page_text::push_line;
 use crate::random::Random;
 
+/// The ids of good records, numbers out of the range of some or of all fields, and how many digits
+/// make a line about as long as it may be.
+pub struct Numbers {
+    ids: [i64; 11],
+    far: [&'static str; 12],
+    digits: (i64, i64),
+}
+
+impl Numbers {
+    /// About the limits of document 01.
+    pub const SHORT_IDS: Self = Self {
+        ids: [1, 1, 2, 2, 3, 3, 4, 5, 6, 17, 65_535],
+        far: FAR_NUMBERS,
+        digits: (40, 62),
+    };
+
+    /// About those of document 02, S-1.
+    pub const LONG_IDS: Self = Self {
+        ids: [
+            1,
+            65_537,
+            65_537,
+            131_073,
+            2_147_483_647,
+            2_147_483_648,
+            2_147_483_649,
+            4_294_901_761,
+            4_294_967_294,
+            4_294_967_295,
+            4_294_967_295,
+        ],
+        far: LONG_FAR_NUMBERS,
+        digits: (72, 94),
+    };
+}
+
 /// A text of a few records; at times one of many nets or boxes, at or past the list's limit.
-pub fn short(random: &mut Random) -> Vec<u8> {
+pub fn short(random: &mut Random, numbers: &Numbers) -> Vec<u8> {
     if random.percent(1) {
         return one_list(random);
     }
-    let mut lines = records(random);
+    let mut lines = records(random, numbers);
     if random.percent(45) {
-        put_fault_in(&mut lines, random);
+        put_fault_in(&mut lines, random, numbers);
     }
     lines.concat().into_bytes()
 }
@@ -35,11 +71,11 @@ fn one_list(random: &mut Random) -> Vec<u8> {
 }
 
 /// Lines that all go, each after the lines that it needs.
-fn records(random: &mut Random) -> Vec<String> {
+fn records(random: &mut Random, numbers: &Numbers) -> Vec<String> {
     let mut lists = Lists::default();
     let mut lines = Vec::new();
     for _ in 0..random.pick(&[0, 2, 4, 6, 8, 10, 12, 14, 18, 40]) {
-        let (done, line) = record(&mut lists, random);
+        let (done, line) = record(&mut lists, random, numbers);
         if done == DONE {
             lines.push(line);
         }
@@ -47,8 +83,8 @@ fn records(random: &mut Random) -> Vec<String> {
     lines
 }
 
-fn record(lists: &mut Lists, random: &mut Random) -> (u32, String) {
-    let id = random.pick(&[1, 1, 2, 2, 3, 3, 4, 5, 6, 17, 65_535]);
+fn record(lists: &mut Lists, random: &mut Random, numbers: &Numbers) -> (u32, String) {
+    let id = random.pick(&numbers.ids);
     let reach = random.pick(&[4, 4, 300, 4_194_304]);
     let at = Place::new(random.between(-reach, reach), random.between(-reach, reach));
     match random.below(4) {
@@ -83,7 +119,6 @@ const NO_DECIMALS: [&str; 16] = [
     "1\r",
 ];
 
-/// Numbers out of the range of some or of all fields.
 const FAR_NUMBERS: [&str; 12] = [
     "0",
     "-1",
@@ -99,7 +134,22 @@ const FAR_NUMBERS: [&str; 12] = [
     "340282366920938463463374607431768211457",
 ];
 
-fn put_fault_in(lines: &mut Vec<String>, random: &mut Random) {
+const LONG_FAR_NUMBERS: [&str; 12] = [
+    "0",
+    "-1",
+    "1",
+    "65536",
+    "131072",
+    "4194305",
+    "-4294967295",
+    "4294967296",
+    "4294967297",
+    "8589934593",
+    "18446744073709551617",
+    "-18446744073709551615",
+];
+
+fn put_fault_in(lines: &mut Vec<String>, random: &mut Random, numbers: &Numbers) {
     if lines.is_empty() {
         lines.push(
             random
@@ -112,8 +162,8 @@ fn put_fault_in(lines: &mut Vec<String>, random: &mut Random) {
     match random.below(12) {
         0 => set_field(&mut lines[at], 0, random.pick(&WORDS)),
         1 | 2 => set_any_field(&mut lines[at], random.pick(&NO_DECIMALS), random),
-        3 | 4 => set_any_field(&mut lines[at], random.pick(&FAR_NUMBERS), random),
-        5 => set_any_field(&mut lines[at], &long_number(random), random),
+        3 | 4 => set_any_field(&mut lines[at], random.pick(&numbers.far), random),
+        5 => set_any_field(&mut lines[at], &long_number(random, numbers), random),
         6 => lines[at] = other_field_count(&lines[at], random),
         7 => lines[at] = other_end(&lines[at], random),
         8 => lines.push(lines[at].clone()),
@@ -144,9 +194,10 @@ fn set_any_field(line: &mut String, value: &str, random: &mut Random) {
     set_field(line, 1 + random.below(count - 1), value);
 }
 
-/// A number with so many digits that its line has about 64 bytes.
-fn long_number(random: &mut Random) -> String {
-    "1".repeat(random.between(40, 62) as usize)
+/// A number with so many digits that its line is about as long as it may be.
+fn long_number(random: &mut Random, numbers: &Numbers) -> String {
+    let (least, most) = numbers.digits;
+    "1".repeat(random.between(least, most) as usize)
 }
 
 fn other_field_count(line: &str, random: &mut Random) -> String {

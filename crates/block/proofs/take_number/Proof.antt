@@ -1,6 +1,6 @@
 use native.Mathlib.Omega.{arith}
 use Rattle.rows.specs.Rows.{key}
-use Rattle.book.specs.Book.{takeNumber}
+use Rattle.book.specs.Book.{takeNumberIn}
 use Rattle.book.proofs.Fields.{fields-say, lists-say}
 use Rattle.block.proofs.Blocks
 use borrow.Author.Needs.{needs}
@@ -11,7 +11,7 @@ fields-number-requires : tie.Need-fields-number-requires
 fields-number-requires c κs = search needs
 
 returns : tie.Need-returns
-unfolding takeNumber
+unfolding takeNumberIn
 returns c = fields-say _ (c .before .fields-number .ensures) (c .if1 .taken)
 
 shared-slice-read-add-number : tie.Need-shared-slice-read-add-number
@@ -23,7 +23,7 @@ add-number-requires : tie.Need-add-number-requires
 add-number-requires c κs = search needs
 
 returns-2 : tie.Need-returns-2
-unfolding takeNumber key
+unfolding takeNumberIn key
 returns-2 c = lists-say (c .before .before .before .fields-number .ensures) (c .before .before .if1 .left) (c .add-number .ensures)
 
 pub take-number-spec : {M : Type 1} → statement M

@@ -1,7 +1,7 @@
 -- `desk::add` meets its contract. The tests in their order; the block now stays the same when an entry is laid.
 use native.Mathlib.Omega.{arith}
 use Rattle.rows.specs.Rows.{part}
-use Rattle.book.specs.Book.{takeNumber}
+use Rattle.book.specs.Book.{takeNumberIn}
 use Rattle.block.specs.Block.{withRow}
 use Rattle.desk.specs.Desk.{block, bookOf}
 use Rattle.desk.proofs.Whole
@@ -38,7 +38,7 @@ same-length-2 : tie.Need-same-length-2
 same-length-2 c = search needs
 
 returns-2 : tie.Need-returns-2
-unfolding bookOf block part takeNumber
+unfolding bookOf block part takeNumberIn
 returns-2 c = Whole.says-n _ _ (c .before .before .before .before .before .validate .ensures) _ _ _ (c .before .before .before .before .if1 .left) _ (c .before .take-number .ensures) (c .if2 .taken)
 
 lay-added-requires : tie.Need-lay-added-requires
@@ -74,7 +74,7 @@ same-length-3 : tie.Need-same-length-3
 same-length-3 c = search needs
 
 returns-3 : tie.Need-returns-3
-unfolding bookOf block part takeNumber
+unfolding bookOf block part takeNumberIn
 returns-3 c =
     let at-lay-added = c .before .before .before .before .before .before in
     let at-if2 = at-lay-added .before .before in
