@@ -115,17 +115,25 @@ fn ranged(ok: bool) -> u32
     if ok { 0 } else { 2 }
 }
 
+// Whether a record's fields are in range.
+fn ok_fields(kind: Kind, row: &[u32]) -> bool
+    requires { ⌜ length (now row) ≡ width-of kind ⌝ }
+    ensures { λ r. ⌜ r ≡ okFields kind (now (row .entry)) ⌝ }
+{
+    match kind {
+        Kind::Box => ok_box(row),
+        Kind::Port => ok_point(row) & (row[3] <= 15),
+        Kind::Net => ok_id(row[0]),
+        Kind::End => ok_point(row) & (row[3] <= 1),
+    }
+}
+
 // The number of a record's fields.
 fn fields_number(kind: Kind, row: &[u32]) -> u32
     requires { ⌜ length (now row) ≡ width-of kind ⌝ }
     ensures { λ r. ⌜ r ≡ fieldsNumber kind (now (row .entry)) ⌝ }
 {
-    match kind {
-        Kind::Box => ranged(ok_box(row)),
-        Kind::Port => ranged(ok_point(row) & (row[3] <= 15)),
-        Kind::Net => ranged(ok_id(row[0])),
-        Kind::End => ranged(ok_point(row) & (row[3] <= 1)),
-    }
+    ranged(ok_fields(kind, row))
 }
 
 // Whether a desk may hold a record.

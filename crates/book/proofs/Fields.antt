@@ -42,10 +42,13 @@ module _ (k : Kind) (r : Record) where
   unfolding okRecord
   record-of-0 e = eq-eqb (fieldsNumber k r) 0 e
 
--- the number by the record's kind
-pub fields-are : {k e : Kind} (row : List ℕ) (b : Bool) (n : ℕ) → k ≡ e → length row ≡ width k → b ≡ okFields e row → n ≡ ranged b → n ≡ fieldsNumber k row
+-- the test and the number by the record's kind
+pub fields-ok : {k e : Kind} (row : List ℕ) (b : Bool) → k ≡ e → b ≡ okFields e row → b ≡ okFields k row
+fields-ok row b p e = e ∙ rw p
+
+pub fields-are : (k : Kind) (row : List ℕ) (b : Bool) (n : ℕ) → length row ≡ width k → b ≡ okFields k row → n ≡ ranged b → n ≡ fieldsNumber k row
 unfolding fieldsNumberIn
-fields-are {k} row b n p h e q = q ∙ rw (eq-eqb (length row) (width k) h, p, e)
+fields-are k row b n h e q = q ∙ rw (eq-eqb (length row) (width k) h, e)
 
 pub name-is : {k e : Kind} (name n : ℕ) → k ≡ e → n ≡ nameNumber e name → n ≡ nameNumber k name
 name-is name n p e = e ∙ rw p

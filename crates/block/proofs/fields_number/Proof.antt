@@ -1,98 +1,17 @@
--- `block::fields_number` meets its contract. In each arm the kind is known, and with it the number of fields.
-use mathlib.Core.Path.{ap}
-use mathlib.Core.Bool.{Bool, _&&_}
-use native.Mathlib.Omega.{arith}
-use lib.ListN.{getD}
-use lib.Dec.{leb}
-use Rattle.block.proofs.Blocks
+-- `block::fields_number` meets its contract.
 use Rattle.book.proofs.Fields
 use borrow.Author.Needs.{needs}
 use Rattle.block.proofs.fields_number.Statement.{statement}
 use Rattle.block.proofs.fields_number.Tie as tie
 
-enum-told : tie.Need-enum-told
-enum-told c = search needs
-
-ok-box-requires : tie.Need-ok-box-requires
-ok-box-requires c κs = Blocks.of-kind _ (c .enum-told .given .1) (c .before .before .before .pre)
+ok-fields-requires : tie.Need-ok-fields-requires
+ok-fields-requires c κs = search needs
 
 ranged-requires : tie.Need-ranged-requires
 ranged-requires c κs = search needs
 
-enum-told-2 : tie.Need-enum-told-2
-enum-told-2 c = search needs
-
-ok-point-requires : tie.Need-ok-point-requires
-ok-point-requires c κs = Blocks.of-kind _ (c .enum-told2 .given .1) (c .before .before .before .pre)
-
-shared-slice-read-ranged : tie.Need-shared-slice-read-ranged
-shared-slice-read-ranged c = omega (arith, Blocks.of-kind _ (c .before .before .enum-told2 .given .1) (c .before .before .before .before .before .pre))
-
-ranged-requires-2 : tie.Need-ranged-requires-2
-ranged-requires-2 c κs = search needs
-
-enum-told-3 : tie.Need-enum-told-3
-enum-told-3 c = search needs
-
-shared-slice-read-ok-id : tie.Need-shared-slice-read-ok-id
-shared-slice-read-ok-id c = omega (arith, Blocks.of-kind _ (c .before .enum-told3 .given .1) (c .before .before .before .before .pre))
-
-ok-id-requires : tie.Need-ok-id-requires
-ok-id-requires c κs = search needs
-
-ranged-requires-3 : tie.Need-ranged-requires-3
-ranged-requires-3 c κs = search needs
-
-enum-told-4 : tie.Need-enum-told-4
-enum-told-4 c = search needs
-
-ok-point-requires-2 : tie.Need-ok-point-requires-2
-ok-point-requires-2 c κs = Blocks.of-kind _ (c .enum-told4 .given .1) (c .before .before .before .pre)
-
-shared-slice-read-ranged-2 : tie.Need-shared-slice-read-ranged-2
-shared-slice-read-ranged-2 c = omega (arith, Blocks.of-kind _ (c .before .before .enum-told4 .given .1) (c .before .before .before .before .before .pre))
-
-ranged-requires-4 : tie.Need-ranged-requires-4
-ranged-requires-4 c κs = search needs
-
 returns : tie.Need-returns
-returns c = Fields.fields-are _ _ _ (c .before .before .enum-told .given .1) (c .before .before .before .before .before .pre) (c .before .ok-box .ensures) (c .ranged .ensures)
-
-returns-2 : tie.Need-returns-2
-returns-2 c =
-    let entry = c .before .before .before .before .before .before in
-    Fields.fields-are _ _ _ (c .before .before .before .enum-told2 .given .1) (entry .pre)
-    (ap (λ (b : Bool). b && leb (getD (entry .args .row .now) 3 0) 15) (c .before .before .ok-point .ensures)) (c .ranged2 .ensures)
-
-returns-3 : tie.Need-returns-3
-returns-3 c = Fields.fields-are _ _ _ (c .before .before .before .enum-told3 .given .1) (c .before .before .before .before .before .before .pre) (c .before .ok-id .ensures) (c .ranged3 .ensures)
-
-returns-4 : tie.Need-returns-4
-returns-4 c =
-    let entry = c .before .before .before .before .before .before in
-    Fields.fields-are _ _ _ (c .before .before .before .enum-told4 .given .1) (entry .pre)
-    (ap (λ (b : Bool). b && leb (getD (entry .args .row .now) 3 0) 1) (c .before .before .ok-point2 .ensures)) (c .ranged4 .ensures)
+returns c = Fields.fields-are _ _ _ _ (c .before .before .before .pre) (c .before .ok-fields .ensures) (c .ranged .ensures)
 
 pub fields-number-spec : {M : Type 1} → statement M
-fields-number-spec =
-    tie.close
-    (tie.spec
-    enum-told
-    ok-box-requires
-    ranged-requires
-    enum-told-2
-    ok-point-requires
-    shared-slice-read-ranged
-    ranged-requires-2
-    enum-told-3
-    shared-slice-read-ok-id
-    ok-id-requires
-    ranged-requires-3
-    enum-told-4
-    ok-point-requires-2
-    shared-slice-read-ranged-2
-    ranged-requires-4
-    returns
-    returns-2
-    returns-3
-    returns-4)
+fields-number-spec = tie.close (tie.spec ok-fields-requires ranged-requires returns)
