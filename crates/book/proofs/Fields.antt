@@ -14,7 +14,8 @@ use lib.Dec.{eqb, leb}
 use borrow.Author.Tests.{eq-eqb, ne-eqb, eqb-true, le-leb, leb-true}
 use Rattle.fixed.proofs.Bools.{and-left, and-right}
 use Rattle.rows.specs.Rows.{key}
-use Rattle.book.specs.Book.{Record, Lists, width, okIdIn, field, okFieldsIn, okFields, ranged, fieldsNumberIn, fieldsNumber, okRecord, nameNumber, addNumber, retireNumber, answer, takeNumberIn, takeNumber, leaveNumber}
+use Rattle.book.specs.Book.{Record, Lists, width, field, okIdIn, okFieldsIn, okFields, ranged, fieldsNumberIn, fieldsNumber, okRecord}
+use Rattle.book.specs.Book.{nameNumber, addNumber, retireNumber, answer, takeNumberIn, takeNumber, leaveNumber}
 use Rattle.book.specs.declared.Kind.{Kind}
 
 -- ---- a record that a desk may hold

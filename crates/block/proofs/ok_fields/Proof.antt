@@ -47,13 +47,17 @@ returns : tie.Need-returns
 returns c = Fields.fields-ok _ _ (c .before .enum-told .given .1) (c .ok-box .ensures)
 
 returns-2 : tie.Need-returns-2
-returns-2 c = Fields.fields-ok _ _ (c .before .before .enum-told2 .given .1) (ap (λ (b : Bool). b && leb (getD (c .before .before .before .before .before .args .row .now) 3 0) 15) (c .before .ok-point .ensures))
+returns-2 c =
+    let row = c .before .before .before .before .before .args .row .now in
+    Fields.fields-ok _ _ (c .before .before .enum-told2 .given .1) (ap (λ (b : Bool). b && leb (getD row 3 0) 15) (c .before .ok-point .ensures))
 
 returns-3 : tie.Need-returns-3
 returns-3 c = Fields.fields-ok _ _ (c .before .before .enum-told3 .given .1) (c .ok-id .ensures)
 
 returns-4 : tie.Need-returns-4
-returns-4 c = Fields.fields-ok _ _ (c .before .before .enum-told4 .given .1) (ap (λ (b : Bool). b && leb (getD (c .before .before .before .before .before .args .row .now) 3 0) 1) (c .before .ok-point2 .ensures))
+returns-4 c =
+    let row = c .before .before .before .before .before .args .row .now in
+    Fields.fields-ok _ _ (c .before .before .enum-told4 .given .1) (ap (λ (b : Bool). b && leb (getD row 3 0) 1) (c .before .ok-point2 .ensures))
 
 pub ok-fields-spec : {M : Type 1} → statement M
 ok-fields-spec =
