@@ -7,31 +7,20 @@
 use mathlib.Core.Path.{_≡_, refl, sym, ap, _∙_}
 use mathlib.Core.List.{List, [], _∷_, map, map-append}
 use mathlib.Core.Bool.{Bool, true, false, cond}
-use Prim.Native.Nat.{ℕ, zero, suc}
+use Prim.Native.Nat.{ℕ}
 use native.Mathlib.Omega.{arith}
-use lib.ListN.{length, take, length-map}
+use lib.ListN.{length, length-map}
 use lib.Dec.{eqb, leb}
 use borrow.Author.Tests.{eq-eqb, ne-eqb, eqb-true, eqb-false, leb-true}
 use Rattle.fixed.proofs.Bools.{and-left}
 use Rattle.rows.specs.Rows.{key, ids, scan, place, isIn, without}
+use Rattle.rows.proofs.Rows.{take-map}
 use Rattle.book.specs.Sizes.{IDS, COPIES}
 use Rattle.book.specs.Book.{Record, Lists, Book, okIdIn, okId, okFields, fieldsNumberIn, fieldsNumber, okRecord, own, belongs, okOwners, okMembers, okLists, okCopy, valid}
 use Rattle.book.specs.Book.{roomNumber, newNumber, knownNumber, addNumber, idNumber, placeNumber, retireNumber, nameNumber, spot, list, withList, withRecord, withoutRecord, change, back}
 use Rattle.book.specs.Renamed.{Renames, swapped, Swaps, renamed, renamedLists, renamedBook, renamedName}
 use Rattle.book.specs.declared.Kind.{Kind}
-
--- ---- lists of anything, each element changed
-module _ {A B : Type 0} (g : A → B) where
-  without-map : (i : ℕ) (xs : List A) → without i (map g xs) ≡ map g (without i xs)
-  unfolding without
-  without-map i [] = refl
-  without-map zero (x ∷ xs) = refl
-  without-map (suc i) (x ∷ xs) = rw (without-map i xs)
-
-  take-map : (n : ℕ) (xs : List A) → take n (map g xs) ≡ map g (take n xs)
-  take-map zero xs = refl
-  take-map (suc n) [] = refl
-  take-map (suc n) (x ∷ xs) = rw (take-map n xs)
+use Rattle.book.proofs.Keeps.{map-without}
 
 -- ---- two ids swapped
 module _ (a b : ℕ) where
@@ -209,10 +198,10 @@ module _ (f : ℕ → ℕ) (q : Renames f) where
 
   cut-renamed : (k : Kind) (i : ℕ) (l : Lists) → withList k (without i (list k (renamedLists f l))) (renamedLists f l) ≡ renamedLists f (withList k (without i (list k l)) l)
   unfolding renamedLists
-  cut-renamed Kind.Box i l = rw (without-map (renamed f) i (l .boxes))
-  cut-renamed Kind.Port i l = rw (without-map (renamed f) i (l .ports))
-  cut-renamed Kind.Net i l = rw (without-map (renamed f) i (l .nets))
-  cut-renamed Kind.End i l = rw (without-map (renamed f) i (l .ends))
+  cut-renamed Kind.Box i l = rw (map-without (renamed f) i (l .boxes))
+  cut-renamed Kind.Port i l = rw (map-without (renamed f) i (l .ports))
+  cut-renamed Kind.Net i l = rw (map-without (renamed f) i (l .nets))
+  cut-renamed Kind.End i l = rw (map-without (renamed f) i (l .ends))
 
   pub without-renamed : (k : Kind) (name : ℕ) (l : Lists) → withoutRecord k (renamedName f k name) (renamedLists f l) ≡ renamedLists f (withoutRecord k name l)
   unfolding withoutRecord

@@ -8,7 +8,7 @@ use native.Mathlib.Omega.{arith}
 use lib.ListN.{length, getD, take, drop, set, length-drop, length-set}
 use lib.Seq
 use Rattle.rows.specs.Rows.{pasted, part, rows, records, count}
-use Rattle.rows.proofs.Rows.{rows-prefix, rows-take, take-drop}
+use Rattle.rows.proofs.Rows.{rows-prefix, rows-take, take-drop, take-map}
 use Rattle.rows.proofs.Areas
 use Rattle.rows.proofs.Parts
 use Rattle.book.specs.Sizes.{COPIES}
@@ -179,11 +179,6 @@ module _ (ws : List ℕ) where
   }
 
 -- ---- an entry laid, and taken off
-map-take : {A B : Type 0} (f : A → B) (k : ℕ) (xs : List A) → map f (take k xs) ≡ take k (map f xs)
-map-take f zero xs = refl
-map-take f (suc k) [] = refl
-map-take {B = B} f (suc k) (x ∷ xs) = ap {B = List B} (λ r. f x ∷ r) (map-take f k xs)
-
 -- the first n entries of 31, whatever stands behind them
 first-rows : (n : ℕ) (xs ys : List ℕ) → n * ENTRY ≤ LATER → LATER ≤ length xs → rows ENTRY n (take LATER xs ++ ys) ≡ rows ENTRY n xs
 first-rows n xs ys hn l =
@@ -257,7 +252,7 @@ module _ (ws : List ℕ) (h : DESK ≤ length ws) (e : List ℕ) (he : length e 
       let em : depth′ ≡ suc (min 31 d) = omega arith in
       ap (λ (n : ℕ). map entryOf (rows ENTRY n (drop NEXT (laid e ws)))) (head-laid ∙ em)
       ∙ ap (map entryOf) (rows-laid (min 31 d) (omega arith) ∙ ap (λ (t : List (List ℕ)). e ∷ t) (sym (rows-take ENTRY 31 d (drop NEXT ws))))
-      ∙ ap (λ (t : List Entry). entryOf e ∷ t) (map-take entryOf 31 (rows ENTRY d (drop NEXT ws)))
+      ∙ ap (λ (t : List Entry). entryOf e ∷ t) (sym (take-map entryOf 31 (rows ENTRY d (drop NEXT ws))))
       ∙ sym (take-more (entryOf e) (map entryOf (rows ENTRY d (drop NEXT ws))))
 
   pub book-changed : (blk : List ℕ) → length blk ≡ BLOCK → before-of (entryOf e) (listsOf blk) ≡ listsOf (block ws)

@@ -30,11 +30,11 @@ module _ (line line′ top top′ : ℕ) (hl : line ≤ line′) (ht : top ≤ t
   takes-rises malformed l e = e
 
   -- lines that begin alike, where the rest is the same reading
-  first-rises : (x : Line) (n : ℕ) (l : Lists) (xs ys : List Line)
+  line-rises : (x : Line) (n : ℕ) (l : Lists) (xs ys : List Line)
       → (feedIn top (n + 1) (adds x l) xs .number ≡ 0 → feedIn top′ (n + 1) (adds x l) ys ≡ feedIn top (n + 1) (adds x l) xs)
       → feedIn top n l (x ∷ xs) .number ≡ 0 → feedIn top′ n l (x ∷ ys) ≡ feedIn top n l (x ∷ xs)
   unfolding feedIn onward
-  first-rises x n l xs ys ih e = go (takesIn top x l) refl e
+  line-rises x n l xs ys ih e = go (takesIn top x l) refl e
     where
       go : (s : Step) → takesIn top x l ≡ s → onward s (n + 1) (feedIn top (n + 1) (adds x l) xs) .number ≡ 0
           → onward (takesIn top′ x l) (n + 1) (feedIn top′ (n + 1) (adds x l) ys) ≡ onward s (n + 1) (feedIn top (n + 1) (adds x l) xs)
@@ -56,7 +56,7 @@ module _ (line line′ top top′ : ℕ) (hl : line ≤ line′) (ht : top ≤ t
           → (feedIn top (n + 1) (adds (lineOf p) l) (linesIn line (q ∷ ps)) .number ≡ 0
           → feedIn top′ (n + 1) (adds (lineOf p) l) (linesIn line′ (q ∷ ps)) ≡ feedIn top (n + 1) (adds (lineOf p) l) (linesIn line (q ∷ ps)))
           → feedIn top′ n l (cond (ltb (length p) line′) (lineOf p) malformed ∷ linesIn line′ (q ∷ ps)) ≡ feedIn top n l (cond b (lineOf p) malformed ∷ linesIn line (q ∷ ps))
-      go true h e ih = rw (lt-ltb (length p) line′ (omega (arith, ltb-true (length p) line h))) (first-rises (lineOf p) n l (linesIn line (q ∷ ps)) (linesIn line′ (q ∷ ps)) ih e)
+      go true h e ih = rw (lt-ltb (length p) line′ (omega (arith, ltb-true (length p) line h))) (line-rises (lineOf p) n l (linesIn line (q ∷ ps)) (linesIn line′ (q ∷ ps)) ih e)
       go false h e ih = absurd (omega arith)
 
 pub rises : Rises

@@ -24,6 +24,11 @@ module _ {A B : Type 0} where
   drop-map f (suc i) [] = refl
   drop-map f (suc i) (x ∷ xs) = drop-map f i xs
 
+  pub take-map : (f : A → B) (n : ℕ) (xs : List A) → take n (map f xs) ≡ map f (take n xs)
+  take-map f zero xs = refl
+  take-map f (suc n) [] = refl
+  take-map f (suc n) (x ∷ xs) = rw (take-map f n xs)
+
 module _ {A : Type 0} where
   pub take-drop : (m n : ℕ) (l : List A) → take n (drop m l) ≡ drop m (take (m + n) l)
   take-drop zero n l = ap (λ (k : ℕ). take k l) (sym (zero-add n))
