@@ -10,32 +10,68 @@ use native.Mathlib.Numerals.{add-one}
 use borrow.Author.Tests.{eq-eqb, ne-eqb}
 use lib.Dec.{eqb}
 use lib.IntN.{ℤ}
-use lib.ListN.{length, getD, set, length-append}
-use lib.Seq.{length-take-le}
+use lib.ListN.{length, getD, set, length-set, length-append}
+use lib.Seq.{getD-set-same, getD-set-other}
 use Rattle.fixed.specs.Up.{ups}
 use Rattle.fixed.proofs.Lists.{length-ups}
-use Rattle.nodes.proofs.Nodes.{snoc-at}
-use Rattle.scan.specs.Lent.{Anchored}
+use Rattle.fixed.specs.Constants.{COORDS}
+use Rattle.fixed.specs.Columns.{pick, cell, column}
+use Rattle.fixed.proofs.Columns.{length-column, column-none, column-more, before, beyond}
 use Rattle.anchors.specs.Explicit.{Columns, empty, push, takes, ways, ignored, with-row, with-key, with-keys, port-anchors, explicit, columns}
 use Rattle.anchors.specs.Records.{BOX, ROW, NET, Records}
 
-pub long : (n : ℕ) (cx cy : List ℤ) (dirs own : List ℕ) → n ≤ length cx → length (columns n cx cy dirs own .xs) ≡ n
-long n cx cy dirs own h = length-take-le n (ups cx) (omega (arith, length-ups cx))
+pub long : (n : ℕ) (l : List ℤ) → length (columns n l .xs) ≡ n
+long n l = length-column 0 n l
 
-pub pushed : (n : ℕ) (cx cy cx′ cy′ : List ℤ) (dirs own : List ℕ) (x y d b : ℕ) → n < length cx → n < length cy → n < length dirs → n < length own → ups cx′ ≡ set (ups cx) n x → ups cy′ ≡ set (ups cy) n y → columns (n + 1) cx′ cy′ (set dirs n d) (set own n b) ≡ push (columns n cx cy dirs own) x y d b
-unfolding push
-pushed n cx cy cx′ cy′ dirs own x y d b lx ly ld lo ex ey =
-    rw (ex, ey, snoc-at (ups cx) n (n + 1) x (omega arith) (omega (arith, length-ups cx)), snoc-at (ups cy) n (n + 1) y (omega arith) (omega (arith, length-ups cy)), snoc-at dirs n (n + 1) d (omega arith) ld, snoc-at own n (n + 1) b (omega arith) lo)
+pub none-laid : (l : List ℤ) → columns 0 l ≡ empty
+none-laid l = rw (column-none 0 l, column-none 2560 l, column-none 5120 l, column-none 7680 l)
 
--- the lists keep their lengths
-pub record Kept (cx₀ cy₀ : List ℤ) (dirs₀ own₀ : List ℕ) (cx cy : List ℤ) (dirs own : List ℕ) : Type 0 where
-  pub x-kept : length cx ≡ length cx₀
-  pub y-kept : length cy ≡ length cy₀
-  pub dirs-kept : length dirs ≡ length dirs₀
-  pub own-kept : length own ≡ length own₀
+-- an anchor stored at the index n of each column
+module _ (n : ℕ) (w : List ℕ) (x y d b : ℕ) (h : n < COORDS) (room : COORDS * 4 ≤ length w) where
+  abbrev w1 : List ℕ
+  w1 = set w n x
 
-pub still : {cx₀ cy₀ : List ℤ} {dirs₀ own₀ : List ℕ} {cx cy : List ℤ} {dirs own : List ℕ} {n : ℕ} → Anchored cx₀ cy₀ dirs₀ own₀ n → Kept cx₀ cy₀ dirs₀ own₀ cx cy dirs own → Anchored cx cy dirs own n
-still r k = record { xs-held = omega arith; ys-held = omega arith; dirs-held = omega arith; boxes-held = omega arith }
+  abbrev w2 : List ℕ
+  w2 = set w1 (2560 + n) y
+
+  abbrev w3 : List ℕ
+  w3 = set w2 (5120 + n) d
+
+  abbrev w4 : List ℕ
+  w4 = set w3 (7680 + n) b
+
+  kept-0 : pick (cell 0) n w4 ≡ pick (cell 0) n w
+  kept-0 = beyond n w3 (7680 + n) b 0 (omega arith) ∙ beyond n w2 (5120 + n) d 0 (omega arith) ∙ beyond n w1 (2560 + n) y 0 (omega arith) ∙ beyond n w n x 0 (omega arith)
+
+  kept-1 : pick (cell 2560) n w4 ≡ pick (cell 2560) n w
+  kept-1 = beyond n w3 (7680 + n) b 2560 (omega arith) ∙ beyond n w2 (5120 + n) d 2560 (omega arith) ∙ beyond n w1 (2560 + n) y 2560 (omega arith) ∙ before n w n x 2560 (omega arith)
+
+  kept-2 : pick (cell 5120) n w4 ≡ pick (cell 5120) n w
+  kept-2 = beyond n w3 (7680 + n) b 5120 (omega arith) ∙ beyond n w2 (5120 + n) d 5120 (omega arith) ∙ before n w1 (2560 + n) y 5120 (omega arith) ∙ before n w n x 5120 (omega arith)
+
+  kept-3 : pick (cell 7680) n w4 ≡ pick (cell 7680) n w
+  kept-3 = beyond n w3 (7680 + n) b 7680 (omega arith) ∙ before n w2 (5120 + n) d 7680 (omega arith) ∙ before n w1 (2560 + n) y 7680 (omega arith) ∙ before n w n x 7680 (omega arith)
+
+  at-0 : getD w4 (0 + n) 0 ≡ x
+  at-0 =
+      let z : 0 + n ≡ n = omega arith in
+      rw z (getD-set-other w3 (7680 + n) n b 0 (λ q. omega arith) ∙ getD-set-other w2 (5120 + n) n d 0 (λ q. omega arith) ∙ getD-set-other w1 (2560 + n) n y 0 (λ q. omega arith) ∙ getD-set-same w n x 0 (omega arith))
+
+  at-1 : getD w4 (2560 + n) 0 ≡ y
+  at-1 = getD-set-other w3 (7680 + n) (2560 + n) b 0 (λ q. omega arith) ∙ getD-set-other w2 (5120 + n) (2560 + n) d 0 (λ q. omega arith) ∙ getD-set-same w1 (2560 + n) y 0 (simp length-set (omega arith))
+
+  at-2 : getD w4 (5120 + n) 0 ≡ d
+  at-2 = getD-set-other w3 (7680 + n) (5120 + n) b 0 (λ q. omega arith) ∙ getD-set-same w2 (5120 + n) d 0 (simp length-set (omega arith))
+
+  at-3 : getD w4 (7680 + n) 0 ≡ b
+  at-3 = getD-set-same w3 (7680 + n) b 0 (simp length-set (omega arith))
+
+pub pushed : (n : ℕ) (l l1 l2 l3 l4 : List ℤ) (x y d b : ℕ) → n < COORDS → COORDS * 4 ≤ length l → ups l1 ≡ set (ups l) n x → ups l2 ≡ set (ups l1) (2560 + n) y → ups l3 ≡ set (ups l2) (5120 + n) d → ups l4 ≡ set (ups l3) (7680 + n) b → columns (n + 1) l4 ≡ push (columns n l) x y d b
+unfolding push column
+pushed n l l1 l2 l3 l4 x y d b h room e1 e2 e3 e4 =
+    let k : COORDS * 4 ≤ length (ups l) = omega (arith, length-ups l) in
+    let e : ups l4 ≡ w4 n (ups l) x y d b h k = rw (e4, e3, e2, e1) in
+    rw (column-more 0 n l4, column-more 2560 n l4, column-more 5120 n l4, column-more 7680 n l4, e, kept-0 n (ups l) x y d b h k, kept-1 n (ups l) x y d b h k, kept-2 n (ups l) x y d b h k, kept-3 n (ups l) x y d b h k, at-0 n (ups l) x y d b h k, at-1 n (ups l) x y d b h k, at-2 n (ups l) x y d b h k, at-3 n (ups l) x y d b h k)
 
 -- ---- a row
 

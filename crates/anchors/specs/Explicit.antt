@@ -4,8 +4,9 @@ use mathlib.Core.List.{List, [], _∷_, _++_}
 use Prim.Native.Nat.{ℕ, zero, suc, _+_, _*_, _<_}
 use lib.Dec.{eqb}
 use lib.IntN.{ℤ}
-use lib.ListN.{length, getD, take}
-use Rattle.fixed.specs.Up.{ups}
+use lib.ListN.{length, getD}
+use Rattle.fixed.specs.Constants.{COORDS}
+use Rattle.fixed.specs.Columns.{column}
 use Rattle.nodes.specs.Graph.{none, ALL}
 use Rattle.anchors.specs.Records.{BOX, ROW, NET, Records}
 
@@ -59,9 +60,9 @@ port-anchors r = with-keys false (r .ports) (r .port-count) (r .boxes) BOX (r .b
 unfoldable pub explicit : Records → Columns
 explicit r = with-keys true (r .ends) (r .end-count) (r .nets) NET (r .net-count) (port-anchors r)
 
--- ---- in the lent lists: the first n anchors
-abbrev pub columns : ℕ → List ℤ → List ℤ → List ℕ → List ℕ → Columns
-columns n cx cy dirs own = record { xs = take n (ups cx); ys = take n (ups cy); dirs = take n dirs; boxes = take n own }
+-- ---- in the lent list: the first n anchors; four columns of 2,560
+abbrev pub columns : ℕ → List ℤ → Columns
+columns n l = record { xs = column 0 n l; ys = column COORDS n l; dirs = column (COORDS * 2) n l; boxes = column (COORDS * 3) n l }
 
 -- the l keys are there
 pub record Keyed (width l : ℕ) (keys : List ℕ) : Type 0 where

@@ -3,9 +3,9 @@ ghost use mathlib.Core.Path.{_≡_};
 ghost use mathlib.Core.Bool.{true, false};
 ghost use Prim.Native.Nat.{_+_, _*_, _<_, _≤_};
 ghost use lib.ListN.{length, getD};
-ghost use Rattle.fixed.specs.Constants.{COORDS};
-ghost use Rattle.scan.specs.Lent.{Anchored};
-ghost use Rattle.anchors.specs.Records.{BOX, ROW, NET, records, RowsHeld};
+ghost use Rattle.fixed.specs.Seen.{old, new};
+ghost use Rattle.fixed.specs.Constants.{COORDS, ANCHOR-WORDS};
+ghost use Rattle.anchors.specs.Records.{ROW, records, RowsHeld, recordsIn};
 ghost use Rattle.anchors.specs.Explicit.{push, takes, ways, ignored, with-row, with-key, with-keys, explicit, columns, Keyed};
 
 // Words of a box, of a port or an end, and of a net.
@@ -19,31 +19,21 @@ pub const NET: usize = 1;
 const ALL: u32 = 15;
 
 // An anchor after the first n.
-pub fn push(
-    cx: &mut [i32],
-    cy: &mut [i32],
-    dirs: &mut [u32],
-    own: &mut [u32],
-    n: usize,
-    x: u32,
-    y: u32,
-    d: u32,
-    b: u32,
-)
-    requires { ⌜ Anchored (now cx) (now cy) (now dirs) (now own) COORDS ⌝ }
+pub fn push(out: &mut [i32], n: usize, x: u32, y: u32, d: u32, b: u32)
+    requires { ⌜ ANCHOR-WORDS ≤ length (now out) ⌝ }
     requires { ⌜ n < COORDS ⌝ }
-    ensures { λ _. ⌜ columns (n + 1) (now (cx .exit)) (now (cy .exit)) (now (dirs .exit)) (now (own .exit)) ≡ push (columns n (now (cx .entry)) (now (cy .entry)) (now (dirs .entry)) (now (own .entry))) x y d b ⌝ }
+    ensures { λ _. ⌜ columns (n + 1) (new out) ≡ push (columns n (old out)) x y d b ⌝ }
 {
-    fixed::put(cx, n, x);
-    fixed::put(cy, n, y);
-    dirs[n] = d;
-    own[n] = b;
+    fixed::put(out, n, x);
+    fixed::put(out, fixed::COORDS + n, y);
+    fixed::put(out, fixed::COORDS * 2 + n, d);
+    fixed::put(out, fixed::COORDS * 3 + n, b);
 }
 
 // Whether the row k is an anchor of `key`.
 fn takes(rows: &[u32], ends: bool, key: u32, k: usize) -> bool
     requires { ⌜ k * ROW + ROW ≤ length (now rows) ⌝ }
-    ensures { λ r. ⌜ r ≡ takes ends (now (rows .entry)) key k ⌝ }
+    ensures { λ r. ⌜ r ≡ takes ends (old rows) key k ⌝ }
 {
     if rows[k * ROW] == key {
         if ends {
@@ -77,10 +67,7 @@ fn ignored(ends: bool, i: usize) -> u32
 
 // The row k, if it is an anchor of `key`. How many anchors there are then.
 fn with_row(
-    cx: &mut [i32],
-    cy: &mut [i32],
-    dirs: &mut [u32],
-    own: &mut [u32],
+    out: &mut [i32],
     n: usize,
     rows: &[u32],
     ends: bool,
@@ -88,17 +75,17 @@ fn with_row(
     b: u32,
     k: usize,
 ) -> usize
-    requires { ⌜ Anchored (now cx) (now cy) (now dirs) (now own) COORDS ⌝ }
+    requires { ⌜ ANCHOR-WORDS ≤ length (now out) ⌝ }
     requires { ⌜ (n ≤ COORDS) × (k * ROW + ROW ≤ length (now rows)) ⌝ }
-    requires { ⌜ length (with-row ends (now rows) key b k (columns n (now cx) (now cy) (now dirs) (now own)) .xs) ≤ COORDS ⌝ }
-    ensures { λ r. ⌜ columns r (now (cx .exit)) (now (cy .exit)) (now (dirs .exit)) (now (own .exit)) ≡ with-row ends (now (rows .entry)) key b k (columns n (now (cx .entry)) (now (cy .entry)) (now (dirs .entry)) (now (own .entry))) ⌝ }
+    requires { ⌜ length (with-row ends (now rows) key b k (columns n (now out)) .xs) ≤ COORDS ⌝ }
+    ensures { λ r. ⌜ columns r (new out) ≡ with-row ends (old rows) key b k (columns n (old out)) ⌝ }
     ensures { λ r. ⌜ r ≤ COORDS ⌝ }
 {
     if takes(rows, ends, key, k) {
         let x = rows[k * ROW + 1];
         let y = rows[k * ROW + 2];
         let d = ways(ends, rows[k * ROW + 3]);
-        push(cx, cy, dirs, own, n, x, y, d, b);
+        push(out, n, x, y, d, b);
         return n + 1;
     }
     n
@@ -106,10 +93,7 @@ fn with_row(
 
 // The anchors of one key among m rows.
 fn with_key(
-    cx: &mut [i32],
-    cy: &mut [i32],
-    dirs: &mut [u32],
-    own: &mut [u32],
+    out: &mut [i32],
     n: usize,
     rows: &[u32],
     m: usize,
@@ -117,16 +101,16 @@ fn with_key(
     key: u32,
     b: u32,
 ) -> usize
-    requires { ⌜ Anchored (now cx) (now cy) (now dirs) (now own) COORDS ⌝ }
+    requires { ⌜ ANCHOR-WORDS ≤ length (now out) ⌝ }
     requires { ⌜ (n ≤ COORDS) × (m * ROW ≤ length (now rows)) ⌝ }
-    requires { ⌜ length (with-key ends (now rows) key b m (columns n (now cx) (now cy) (now dirs) (now own)) .xs) ≤ COORDS ⌝ }
-    ensures { λ r. ⌜ columns r (now (cx .exit)) (now (cy .exit)) (now (dirs .exit)) (now (own .exit)) ≡ with-key ends (now (rows .entry)) key b m (columns n (now (cx .entry)) (now (cy .entry)) (now (dirs .entry)) (now (own .entry))) ⌝ }
+    requires { ⌜ length (with-key ends (now rows) key b m (columns n (now out)) .xs) ≤ COORDS ⌝ }
+    ensures { λ r. ⌜ columns r (new out) ≡ with-key ends (old rows) key b m (columns n (old out)) ⌝ }
     ensures { λ r. ⌜ r ≤ COORDS ⌝ }
 {
     let mut count = n;
     let mut k = 0;
     while k < m {
-        count = with_row(cx, cy, dirs, own, count, rows, ends, key, b, k);
+        count = with_row(out, count, rows, ends, key, b, k);
         k += 1;
     }
     count
@@ -134,10 +118,7 @@ fn with_key(
 
 // The anchors of the keys in turn; a key is the first of `width` words.
 fn with_keys(
-    cx: &mut [i32],
-    cy: &mut [i32],
-    dirs: &mut [u32],
-    own: &mut [u32],
+    out: &mut [i32],
     n: usize,
     rows: &[u32],
     m: usize,
@@ -146,11 +127,11 @@ fn with_keys(
     l: usize,
     ends: bool,
 ) -> usize
-    requires { ⌜ Anchored (now cx) (now cy) (now dirs) (now own) COORDS ⌝ }
+    requires { ⌜ ANCHOR-WORDS ≤ length (now out) ⌝ }
     requires { ⌜ (n ≤ COORDS) × (m * ROW ≤ length (now rows)) × (l < 4294967296) ⌝ }
     requires { ⌜ Keyed width l (now keys) ⌝ }
-    requires { ⌜ length (with-keys ends (now rows) m (now keys) width l (columns n (now cx) (now cy) (now dirs) (now own)) .xs) ≤ COORDS ⌝ }
-    ensures { λ r. ⌜ columns r (now (cx .exit)) (now (cy .exit)) (now (dirs .exit)) (now (own .exit)) ≡ with-keys ends (now (rows .entry)) m (now (keys .entry)) width l (columns n (now (cx .entry)) (now (cy .entry)) (now (dirs .entry)) (now (own .entry))) ⌝ }
+    requires { ⌜ length (with-keys ends (now rows) m (now keys) width l (columns n (now out)) .xs) ≤ COORDS ⌝ }
+    ensures { λ r. ⌜ columns r (new out) ≡ with-keys ends (old rows) m (old keys) width l (columns n (old out)) ⌝ }
     ensures { λ r. ⌜ r ≤ COORDS ⌝ }
 {
     let mut count = n;
@@ -158,7 +139,7 @@ fn with_keys(
     while i < l {
         let key = keys[i * width];
         let b = ignored(ends, i);
-        count = with_key(cx, cy, dirs, own, count, rows, m, ends, key, b);
+        count = with_key(out, count, rows, m, ends, key, b);
         i += 1;
     }
     count
@@ -166,10 +147,7 @@ fn with_keys(
 
 // The explicit anchors of a page's records: how many there are.
 pub fn explicit(
-    cx: &mut [i32],
-    cy: &mut [i32],
-    dirs: &mut [u32],
-    own: &mut [u32],
+    out: &mut [i32],
     boxes: &[u32],
     nb: usize,
     ports: &[u32],
@@ -179,12 +157,12 @@ pub fn explicit(
     ends: &[u32],
     ne: usize,
 ) -> usize
-    requires { ⌜ Anchored (now cx) (now cy) (now dirs) (now own) COORDS ⌝ }
+    requires { ⌜ ANCHOR-WORDS ≤ length (now out) ⌝ }
     requires { ⌜ RowsHeld (records (now boxes) nb (now ports) np (now nets) nn (now ends) ne) ⌝ }
     requires { ⌜ length (explicit (records (now boxes) nb (now ports) np (now nets) nn (now ends) ne) .xs) ≤ COORDS ⌝ }
-    ensures { λ r. ⌜ columns r (now (cx .exit)) (now (cy .exit)) (now (dirs .exit)) (now (own .exit)) ≡ explicit (records (now (boxes .entry)) nb (now (ports .entry)) np (now (nets .entry)) nn (now (ends .entry)) ne) ⌝ }
+    ensures { λ r. ⌜ columns r (new out) ≡ explicit (recordsIn boxes nb ports np nets nn ends ne) ⌝ }
     ensures { λ r. ⌜ r ≤ COORDS ⌝ }
 {
-    let n = with_keys(cx, cy, dirs, own, 0, ports, np, boxes, BOX, nb, false);
-    with_keys(cx, cy, dirs, own, n, ends, ne, nets, NET, nn, true)
+    let n = with_keys(out, 0, ports, np, boxes, BOX, nb, false);
+    with_keys(out, n, ends, ne, nets, NET, nn, true)
 }

@@ -7,30 +7,28 @@ use native.Mathlib.Numerals.{add-one}
 use lib.ListN.{length, getD, set, take, drop, drop-of-length-le, length-set, length-take, replicate, length-replicate, getD-replicate}
 use lib.Seq.{drop-cons, getD-take, getD-set-same, getD-set-other}
 use lib.Dec.{ltb, leb, eqb}
-use lib.IntN.{ℤ}
 use borrow.Author.Tests.{lt-ltb, le-ltb, eq-eqb, ne-eqb, eqb-true, eqb-false}
 use native.Mathlib.Omega.{arith}
-use Rattle.fixed.specs.Up.{ups}
 use Rattle.fixed.specs.Steps.{manhattan, penalty}
 use mathlib.Core.Logic.{_⊎_, inl, inr, ⊎-elim}
 use native.Mathlib.Decide.{ℕ-discrete}
 use Rattle.queue.specs.Queue.{UNSET}
 use Rattle.queue.specs.Index.{Indexed}
 use native.Mathlib.Nat.{add-assoc, le-refl}
-use Rattle.fixed.proofs.Lists.{length-ups}
-use Rattle.nodes.specs.Lent.{graph}
 use Rattle.nodes.specs.Graph.{Graph, none, opposite, onward}
 use Rattle.astar.specs.Search.{FAR, MOVES, distance, dist, nearest, toward, arrives, arrival, run-length, straight-run, penalty-at, St, st, cost, replaced, replace, relax, begin}
 use Rattle.astar.specs.Reached.{LIMIT, Ready}
 use Rattle.astar.proofs.Roads.{along, along-lt, link, goes-on, apart}
-use Rattle.astar.specs.Scratch.{Estimated, Held}
+use Rattle.columns.specs.Columns.{Only}
+use Rattle.queue.specs.Columns.{WIDTH, SUM, sums}
+use Rattle.astar.specs.Scratch.{SCORE, ESTIMATE, PRED, scores, estimates, preds, marked, state, Estimated, Held}
 
 -- ---- the parts of a graph in longer lists
 
-pub distance-is : (n : ℕ) (xs ys : List ℤ) (a b ax ay bx by r : ℕ) → a < n → b < n → ax ≡ getD (ups xs) a 0 → ay ≡ getD (ups ys) a 0 → bx ≡ getD (ups xs) b 0 → by ≡ getD (ups ys) b 0 → r ≡ manhattan ax ay bx by → r ≡ distance (take n (ups xs)) (take n (ups ys)) a b
+pub distance-is : (n : ℕ) (xs ys : List ℕ) (a b ax ay bx by r : ℕ) → a < n → b < n → ax ≡ getD xs a 0 → ay ≡ getD ys a 0 → bx ≡ getD xs b 0 → by ≡ getD ys b 0 → r ≡ manhattan ax ay bx by → r ≡ distance (take n xs) (take n ys) a b
 unfolding distance
 distance-is n xs ys a b ax ay bx by r an bn e1 e2 e3 e4 e =
-    rw (getD-take n (ups xs) a 0 an, getD-take n (ups ys) a 0 an, getD-take n (ups xs) b 0 bn, getD-take n (ups ys) b 0 bn, ← e1, ← e2, ← e3, ← e4) e
+    rw (getD-take n xs a 0 an, getD-take n ys a 0 an, getD-take n xs b 0 bn, getD-take n ys b 0 bn, ← e1, ← e2, ← e3, ← e4) e
 
 -- ---- the estimate
 
@@ -62,15 +60,14 @@ module _ (xs ys es : List ℕ) (v : ℕ) where
 -- ---- an estimate that is kept
 
 module _ (n : ℕ) (xs ys es l : List ℕ) (E : Estimated n xs ys es l) (v : ℕ) (vn : v < n) where
-  pub kept-known : (getD l v 0 ≡ UNSET → ⊥) → getD l v 0 ≡ nearest xs ys es v
-  kept-known h = ⊎-elim (λ e. absurd (h e)) (λ e. e) (E .each v vn)
+  pub kept-known : (x : ℕ) → x ≡ getD l v 0 → (x ≡ UNSET → ⊥) → x ≡ nearest xs ys es v
+  kept-known x e h = e ∙ ⊎-elim (λ z. absurd (h (e ∙ z))) (λ z. z) (E .each v vn)
 
-  pub kept-new : (x : ℕ) → x ≡ nearest xs ys es v → Estimated n xs ys es (set l v x)
-  kept-new x e =
-      record { long = simp length-set (E .long); each = λ u un. by u un (ℕ-discrete u v) }
+  pub kept-new : length l ≡ n → (x : ℕ) (l′ : List ℕ) → l′ ≡ set l v x → x ≡ nearest xs ys es v → Estimated n xs ys es l′
+  kept-new long x l′ is e = rw is (record { each = λ u un. by u un (ℕ-discrete u v) })
     where
       by : (u : ℕ) → u < n → Dec (u ≡ v) → (getD (set l v x) u 0 ≡ UNSET) ⊎ (getD (set l v x) u 0 ≡ nearest xs ys es u)
-      by u un (yes z) = inr (rw (z, getD-set-same l v x 0 (omega (arith, E .long))) e)
+      by u un (yes z) = inr (rw (z, getD-set-same l v x 0 (omega arith)) e)
       by u un (no z) = ⊎-elim (λ w. inl (getD-set-other l v u x 0 z ∙ w)) (λ w. inr (getD-set-other l v u x 0 z ∙ w)) (E .each u un)
 
 -- ---- a direction
@@ -163,24 +160,6 @@ module _ (G : Graph) (w : Ready G) (p : List ℕ) (d from : ℕ) where
       pub walk-step : Walk G p d from (len + dist G node (getD p node 0)) (getD p node 0)
       walk-step = more (r .k) (r .room) (r .same)
 
--- ---- the lent lists hold the graph
-
-module _ (n : ℕ) (xs ys : List ℤ) (ls ms : List ℕ) (w : Ready (graph n xs ys ls ms)) where
-  room-of : (k : ℕ) (l : List ℕ) → length (take k l) ≡ k → k ≤ length l
-  room-of k l e = omega (arith, length-take k l)
-
-  pub few : n ≤ 4096
-  few = w .wf .few
-
-  pub x-room : n ≤ length xs
-  x-room = omega (arith, length-ups xs, room-of n (ups xs) (w .wf .good .x-long))
-
-  pub y-room : n ≤ length ys
-  y-room = omega (arith, length-ups ys, room-of n (ups ys) (w .wf .good .y-long))
-
-  pub link-room : n * 4 ≤ length ls
-  link-room = room-of (n * 4) ls (w .wf .good .link-long)
-
 -- ---- arrival and penalty
 
 module _ (ls p : List ℕ) (v : ℕ) where
@@ -232,13 +211,48 @@ module _ (G : Graph) (es : List ℕ) (s : St) (u d sd pen : ℕ) where
     unfolding relax
     relax-take t et l = rw (ne-eqb _ _ h, ne-eqb _ _ r, ← is-cost, ← ev, lt-ltb _ _ l) et
 
--- ---- the lists of a search
+-- a cost from a score that was read
+pub same-cost : (x g a b c : ℕ) → x ≡ g → c ≡ x + a + b → c ≡ g + a + b
+same-cost x g a b c e f = f ∙ rw e
 
--- a store of a node's score, predecessor, estimate and queue entry
-pub improved : (n : ℕ) (xs ys es g p q bs l q′ bs′ l′ : List ℕ) → Held n xs ys es g p q bs l → (v u c e : ℕ) → v < n → e ≡ nearest xs ys es v → q′ ≡ set q v (c + e) → Indexed q′ bs′ → Estimated n xs ys es l′
-    → (st (set g v c) (set p v u) q′ ≡ replaced xs ys es (st g p q) v u c) × Held n xs ys es (set g v c) (set p v u) q′ bs′ l′
-improved n xs ys es g p q bs l q′ bs′ l′ H v u c e vn ee eq i k =
-    (rw (eq, ee), record { g-long = simp length-set (H .g-long); p-long = simp length-set (H .p-long); q-long = rw eq (simp length-set (H .q-long)); index = i; known = k })
+-- ---- the cells of a search
+
+-- stores of a node's estimate (a to b), score (to c), predecessor (to d) and sum (to f)
+module _ (n : ℕ) (xs ys es a b c d : List ℕ) (t : List ℕ) (H : Held n xs ys es a t) (E : Estimated n xs ys es (estimates n b)) (oe : Only n ESTIMATE a b)
+    (v u s : ℕ) (es′ : scores n c ≡ set (scores n b) v s) (os : Only n SCORE b c) (ep : preds n d ≡ set (preds n c) v u) (op : Only n PRED c d) where
+  sums-same : sums n d ≡ sums n a
+  sums-same = op .others 3 (λ z. omega (arith, z)) ∙ os .others 3 (λ z. omega (arith, z)) ∙ oe .others 3 (λ z. omega (arith, z))
+
+  pub stored-index : Indexed (sums n d) t
+  stored-index = rw sums-same (H .index)
+
+  pub stored-room : n * WIDTH ≤ length d
+  stored-room = rw (op .long, os .long, oe .long) (H .room)
+
+  pub stored : (f t′ : List ℕ) (e : ℕ) → e ≡ nearest xs ys es v → sums n f ≡ set (sums n d) v (s + e) → Only n SUM d f → Indexed (sums n f) t′
+      → (state n f ≡ replaced xs ys es (state n a) v u s) × Held n xs ys es f t′
+  stored f t′ e ee eq oq i =
+      (same, record { room = rw (oq .long) stored-room; index = i; known = rw known-same E; ends = rw marked-same (H .ends) })
+    where
+      known-same : estimates n f ≡ estimates n b
+      known-same = oq .others 1 (λ z. omega (arith, z)) ∙ op .others 1 (λ z. omega (arith, z)) ∙ os .others 1 (λ z. omega (arith, z))
+
+      marked-same : marked n f ≡ marked n a
+      marked-same =
+          oq .others 4 (λ z. omega (arith, z)) ∙ op .others 4 (λ z. omega (arith, z)) ∙ os .others 4 (λ z. omega (arith, z)) ∙ oe .others 4 (λ z. omega (arith, z))
+
+      scores-are : scores n f ≡ set (scores n a) v s
+      scores-are = oq .others 0 (λ z. omega (arith, z)) ∙ op .others 0 (λ z. omega (arith, z)) ∙ es′ ∙ ap (λ (l : List ℕ). set l v s) (oe .others 0 (λ z. omega (arith, z)))
+
+      preds-are : preds n f ≡ set (preds n a) v u
+      preds-are =
+          oq .others 2 (λ z. omega (arith, z)) ∙ ep ∙ ap (λ (l : List ℕ). set l v u) (os .others 2 (λ z. omega (arith, z)) ∙ oe .others 2 (λ z. omega (arith, z)))
+
+      sums-are : sums n f ≡ set (sums n a) v (s + nearest xs ys es v)
+      sums-are = eq ∙ rw (ee, sums-same)
+
+      same : state n f ≡ replaced xs ys es (state n a) v u s
+      same = rw (scores-are, preds-are, sums-are)
 
 module _ (G : Graph) (u d sd r : ℕ) (e : r ≡ cond (eqb d (opposite sd)) none (onward G d u)) where
   pub move-goes : (r ≡ none → ⊥) → (d ≡ opposite sd → ⊥) × (r ≡ onward G d u)
@@ -268,15 +282,28 @@ module _ (G : Graph) (u d sd r : ℕ) (e : r ≡ cond (eqb d (opposite sd)) none
       unfolding replace
       move-to t et l = let p = move-goes z in relax-take G es s u d sd pen v c (p .0) (λ n. z (p .1 ∙ n)) (ev ∙ p .1) ec t et l
 
-pub begun : (n a : ℕ) (g p q q′ : List ℕ) → g ≡ replicate n UNSET → p ≡ replicate n none → q ≡ replicate n UNSET → q′ ≡ set q a 0 → st (set g a 0) p q′ ≡ begin n a
-unfolding begin
-begun n a g p q q′ eg ep eq e = rw (e, eg, ep, eq)
+-- the start's score (a to b) and sum (to c)
+module _ (n v : ℕ) (a b : List ℕ) (es : scores n b ≡ set (scores n a) v 0) (os : Only n SCORE a b) where
+  pub begun-index : (t : List ℕ) → Indexed (sums n a) t → Indexed (sums n b) t
+  begun-index t I = rw (os .others 3 (λ z. omega (arith, z))) I
 
-pub blank-long : (n v : ℕ) (l : List ℕ) → l ≡ replicate n v → length l ≡ n
-blank-long n v l e = rw e (length-replicate n v)
+  module _ (c : List ℕ) (eq : sums n c ≡ set (sums n b) v 0) (oq : Only n SUM b c) where
+    pub begun : scores n a ≡ replicate n UNSET → preds n a ≡ replicate n none → sums n a ≡ replicate n UNSET → state n c ≡ begin n v
+    unfolding begin
+    begun g p q =
+        let g′ : scores n c ≡ set (replicate n UNSET) v 0 = oq .others 0 (λ z. omega (arith, z)) ∙ es ∙ rw g in
+        let p′ : preds n c ≡ replicate n none = oq .others 2 (λ z. omega (arith, z)) ∙ os .others 2 (λ z. omega (arith, z)) ∙ p in
+        let q′ : sums n c ≡ set (replicate n UNSET) v 0 = eq ∙ rw (os .others 3 (λ z. omega (arith, z)), q) in
+        rw (g′, p′, q′)
+
+    pub begun-known : estimates n c ≡ estimates n a
+    begun-known = oq .others 1 (λ z. omega (arith, z)) ∙ os .others 1 (λ z. omega (arith, z))
+
+    pub begun-marked : marked n c ≡ marked n a
+    begun-marked = oq .others 4 (λ z. omega (arith, z)) ∙ os .others 4 (λ z. omega (arith, z))
 
 pub unknown : (n : ℕ) (xs ys es l : List ℕ) → l ≡ replicate n UNSET → Estimated n xs ys es l
-unknown n xs ys es l e = record { long = rw e (length-replicate n UNSET); each = λ v vn. inl (rw e (getD-replicate n v UNSET 0 vn)) }
+unknown n xs ys es l e = record { each = λ v vn. inl (rw e (getD-replicate n v UNSET 0 vn)) }
 
 pub arrival-le : (ls p : List ℕ) (v : ℕ) → arrives ls p v ≤ 4
 unfolding arrives toward

@@ -17,7 +17,10 @@ use Rattle.queue.proofs.Ranges.{least-in}
 use Rattle.nodes.specs.Graph.{Graph, none, opposite, onward}
 use Rattle.astar.specs.Search.{HIGH, TURNS, St, st, dist, holds, arrival, penalty-at, relax, relax-to, expand, pop, run, out, Out, begin, found-of}
 use Rattle.astar.specs.Reached.{Reach, start, onto}
-use Rattle.astar.specs.Scratch.{Marked}
+use Rattle.columns.specs.Columns.{Only}
+use Rattle.queue.specs.Columns.{WIDTH, SUM, sums}
+use Rattle.queue.specs.Index.{Indexed}
+use Rattle.astar.specs.Scratch.{estimates, marked, state, Marked, Held}
 use Rattle.astar.proofs.Roads.{Roads, STEEP}
 use Rattle.astar.specs.declared.Found
 use Rattle.astar.specs.declared.Found.{Found}
@@ -277,16 +280,13 @@ pop-empty q r e f = go (ltb (getD q (top q) 0) UNSET) refl (sym e ∙ f)
     go true b h = let z : _≡_ {A = ℕ} 0 1 = cc in absurd (omega arith)
     go false b h = ltb-false _ _ b
 
--- ---- the code's turn: r and q′ are what `pop_least` gives
-module _ (n : ℕ) (G : Graph) (w : Roads n G) (es : List ℕ) (a : ℕ) (s : St) (f : Found) (K : Going n G es a s f) (r : Popped) (q′ : List ℕ)
-    (er : r ≡ popped (s .q)) (eq : q′ ≡ after-pop (s .q)) where
-  pub going-len : length q′ ≡ n
-  going-len = rw eq (length-set (s .q) (top (s .q)) UNSET ∙ K .inv .q-len)
-
-  pub going-empty : r ≡ Empty → (f ≡ found-of (run TURNS G es (begin n a) .at)) × (st (s .g) (s .p) q′ ≡ run TURNS G es (begin n a) .end)
+-- ---- the code's turn: r and s′ are what `pop_least` gives
+module _ (n : ℕ) (G : Graph) (w : Roads n G) (es : List ℕ) (a : ℕ) (s : St) (f : Found) (K : Going n G es a s f) (r : Popped) (s′ : St)
+    (er : r ≡ popped (s .q)) (eq : s′ ≡ pop s) where
+  pub going-empty : r ≡ Empty → (f ≡ found-of (run TURNS G es (begin n a) .at)) × (s′ ≡ run TURNS G es (begin n a) .end)
   going-empty h =
       let x : out none (pop s) ≡ run TURNS G es (begin n a) = sym (run-empty G es s (K .k) (pop-empty (s .q) r er h)) ∙ K .same in
-      (K .nothing ∙ ap (λ (o : Out). found-of (o .at)) x, rw eq (ap (λ (o : Out). o .end) x))
+      (K .nothing ∙ ap (λ (o : Out). found-of (o .at)) x, eq ∙ ap (λ (o : Out). o .end) x)
 
   module _ (u : ℕ) (h : r ≡ At u) where
     full : getD (s .q) (top (s .q)) 0 < UNSET
@@ -298,17 +298,20 @@ module _ (n : ℕ) (G : Graph) (w : Roads n G) (es : List ℕ) (a : ℕ) (s : St
     pub going-in : u < n
     going-in = rw (← is-top) (top-in n G w es a s (K .inv))
 
-    pub going-shape : Shape n (st (s .g) (s .p) q′)
-    going-shape = record { g-len = K .inv .g-len; p-len = K .inv .p-len; q-len = going-len }
-
     scored : getD (s .g) u 0 < UNSET
     scored = rw (← is-top) (ug n G w es a s (K .inv) full)
 
-    pub going-low : getD (s .g) u 0 ≤ HIGH
-    going-low = omega (arith, K .inv .bound u going-in scored, cnt-le (s .g), K .inv .g-len, w .few)
+    pub going-low : getD (s′ .g) u 0 ≤ HIGH
+    going-low = rw eq low
+      where
+        low : getD (s .g) u 0 ≤ HIGH
+        low = omega (arith, K .inv .bound u going-in scored, cnt-le (s .g), K .inv .g-len, w .few)
 
-    pub going-pred : (getD (s .p) u 0 ≡ none → ⊥) → getD (s .p) u 0 < n
-    going-pred z = K .inv .pred u going-in z .inside
+    pub going-pred : (getD (s′ .p) u 0 ≡ none → ⊥) → getD (s′ .p) u 0 < n
+    going-pred = rw eq pred
+      where
+        pred : (getD (s .p) u 0 ≡ none → ⊥) → getD (s .p) u 0 < n
+        pred z = K .inv .pred u going-in z .inside
 
     -- some TURNS is left, since the queue is not empty
     left : (k : ℕ) → mu s ≤ k → (m : ℕ) × (k ≡ suc m)
@@ -322,13 +325,13 @@ module _ (n : ℕ) (G : Graph) (w : Roads n G) (es : List ℕ) (a : ℕ) (s : St
     same′ = subst (λ (x : ℕ). run x G es s ≡ run TURNS G es (begin n a)) (m .1) (K .same)
 
     pub going-hit : (holds u es ≡ true)
-        → (Found.the-variants.Node u ≡ found-of (run TURNS G es (begin n a) .at)) × (st (s .g) (s .p) q′ ≡ run TURNS G es (begin n a) .end)
+        → (Found.the-variants.Node u ≡ found-of (run TURNS G es (begin n a) .at)) × (s′ ≡ run TURNS G es (begin n a) .end)
     going-hit e =
         let e′ : holds (top (s .q)) es ≡ true = rw is-top e in
         let x : out (top (s .q)) (pop s) ≡ run TURNS G es (begin n a) = sym (run-hit G es s full (m .0) e′) ∙ same′ in
-        (rw (← ap (λ (o : Out). o .at) x, is-top, ne-eqb u none (λ z. omega (arith, z, going-in, w .few))) refl, rw eq (ap (λ (o : Out). o .end) x))
+        (rw (← ap (λ (o : Out). o .at) x, is-top, ne-eqb u none (λ z. omega (arith, z, going-in, w .few))) refl, eq ∙ ap (λ (o : Out). o .end) x)
 
-    module _ (e : holds u es ≡ false) (t : St) (et : t ≡ expand G es (st (s .g) (s .p) q′) u) where
+    module _ (e : holds u es ≡ false) (t : St) (et : t ≡ expand G es s′ u) where
       e′ : holds (top (s .q)) es ≡ false
       e′ = rw is-top e
 
@@ -354,18 +357,18 @@ going-first n G w es a an s e =
     rw e (record { k = TURNS; same = refl; room = begin-mu n G w es a an; inv = begin-inv n G w es a an; nothing = refl })
 
 -- what the test of a mark says
-module _ (n : ℕ) (es marked : List ℕ) (M : Marked n es marked) (u : ℕ) (un : u < n) where
-  pub marked-yes : (getD marked u 0 ≡ 0 → ⊥) → holds u es ≡ true
-  marked-yes h = go (holds u es) (M .each u un)
+module _ (n : ℕ) (es l : List ℕ) (M : Marked n es l) (u : ℕ) (un : u < n) (x : ℕ) (ex : x ≡ getD l u 0) where
+  pub marked-yes : (x ≡ 0 → ⊥) → holds u es ≡ true
+  marked-yes h = go (holds u es) (ex ∙ M .each u un)
     where
-      go : (t : Bool) → getD marked u 0 ≡ cond t 1 0 → t ≡ true
+      go : (t : Bool) → x ≡ cond t 1 0 → t ≡ true
       go true e = refl
       go false e = absurd (h e)
 
-  pub marked-no : getD marked u 0 ≡ 0 → holds u es ≡ false
-  marked-no h = go (holds u es) (M .each u un)
+  pub marked-no : x ≡ 0 → holds u es ≡ false
+  marked-no h = go (holds u es) (ex ∙ M .each u un)
     where
-      go : (t : Bool) → getD marked u 0 ≡ cond t 1 0 → t ≡ false
+      go : (t : Bool) → x ≡ cond t 1 0 → t ≡ false
       go true e = absurd (omega arith)
       go false e = refl
 
@@ -391,3 +394,17 @@ module _ (n : ℕ) (G : Graph) (w : Roads n G) (es : List ℕ) (a : ℕ) where
       go (yes full) false e ih =
           let l = turn-mu n G w es a s I full e in
           run-on G es s full k e ∙ ih _ (turn-inv n G w es a s I full e) (omega arith) (omega arith) ∙ sym (run-on G es s full m e)
+
+-- ---- the cells after `pop_least`
+
+module _ (n : ℕ) (a b : List ℕ) (o : Only n SUM a b) where
+  pub popped-state : sums n b ≡ after-pop (sums n a) → state n b ≡ pop (state n a)
+  popped-state e = rw (e, o .others 0 (λ z. omega (arith, z)), o .others 2 (λ z. omega (arith, z)))
+
+  pub popped-held : (xs ys es t t′ : List ℕ) → Held n xs ys es a t → Indexed (sums n b) t′ → Held n xs ys es b t′
+  popped-held xs ys es t t′ H i =
+      record { room = rw (o .long) (H .room); index = i; known = rw (o .others 1 (λ z. omega (arith, z))) (H .known); ends = rw (o .others 4 (λ z. omega (arith, z))) (H .ends) }
+
+-- the cells before the first turn
+pub begun-held : (n : ℕ) (xs ys es a b t t′ : List ℕ) → Held n xs ys es a t → length b ≡ length a → Indexed (sums n b) t′ → estimates n b ≡ estimates n a → marked n b ≡ marked n a → Held n xs ys es b t′
+begun-held n xs ys es a b t t′ H l i e m = record { room = rw l (H .room); index = i; known = rw e (H .known); ends = rw m (H .ends) }

@@ -83,7 +83,7 @@ module _ (P : Vertices) where
   unfolding routeWire lineWire fallbackWire
   routed L sx sy ex ey ahead isRoot J W K =
       either-t (eqb (L .count) 0) _ _ (either-t (fits (W .page .n) (fallbackVertices sx sy ex ey ahead) (W .net .m) 2) (tried 0 (pushFallback sx sy ex ey ahead J W)) (tried 15 W) (fallback sx sy ex ey ahead J W K) K)
-      (either-t (eqb (L .count) 1) (tried 14 W) _ K (either-t (fits (W .page .n) (lineVertices (L .kinds) (L .ways) (L .count)) (W .net .m) (lineEnds (L .count))) (tried 0 (pushVertices L isRoot J W)) (tried 15 W) (wire L isRoot J W K) K))
+      (either-t (eqb (L .count) 1) (tried 14 W) _ K (either-t (fits (W .page .n) (lineVertices L) (W .net .m) (lineEnds L)) (tried 0 (pushVertices L isRoot J W)) (tried 15 W) (wire L isRoot J W K) K))
 
 -- the same of a page's junctions
 pub record Joins (R : List ℕ) (j : ℕ) (R′ : List ℕ) (j′ : ℕ) : Type 0 where

@@ -117,7 +117,7 @@ routed : (L : Line) (sx sy ex ey : ℕ) (ahead isRoot : Bool) (J : Junction) (W 
 unfolding routeWire lineWire fallbackWire
 routed L sx sy ex ey ahead isRoot J W =
     either told (eqb (L .count) 0) _ _ _ _ (either told (fits (W .page .n) (fallbackVertices sx sy ex ey ahead) (W .net .m) 2) (tried 0 (pushFallback sx sy ex ey ahead J W)) (tried 15 W) (tried 0 (pushFallback sx sy ex ey ahead J (clear W))) (tried 15 (clear W)) (ap (λ (X : Wires). tried 0 X) (fallback sx sy ex ey ahead J W)) (same 15))
-    (either told (eqb (L .count) 1) (tried 14 W) _ (tried 14 (clear W)) _ (same 14) (either told (fits (W .page .n) (lineVertices (L .kinds) (L .ways) (L .count)) (W .net .m) (lineEnds (L .count))) (tried 0 (pushVertices L isRoot J W)) (tried 15 W) (tried 0 (pushVertices L isRoot J (clear W))) (tried 15 (clear W)) (ap (λ (X : Wires). tried 0 X) (line L isRoot J W)) (same 15)))
+    (either told (eqb (L .count) 1) (tried 14 W) _ (tried 14 (clear W)) _ (same 14) (either told (fits (W .page .n) (lineVertices L) (W .net .m) (lineEnds L)) (tried 0 (pushVertices L isRoot J W)) (tried 15 W) (tried 0 (pushVertices L isRoot J (clear W))) (tried 15 (clear W)) (ap (λ (X : Wires). tried 0 X) (line L isRoot J W)) (same 15)))
   where
     same : (k : ℕ) → told (tried k W) ≡ told (tried k (clear W))
     same k = ap (λ (E : Ends). tried k (wires (W .page) E)) (again (W .net))

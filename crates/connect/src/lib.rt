@@ -3,57 +3,46 @@ ghost use mathlib.Core.Path.{_≡_};
 ghost use mathlib.Core.Bool.{cond};
 ghost use lib.Dec.{eqb, ltb};
 ghost use Prim.Native.Nat.{_+_, _*_, _<_, _≤_};
-ghost use lib.ListN.{length, take};
-ghost use Rattle.fixed.specs.Up.{ups};
-ghost use Rattle.nodes.specs.Lent.{graph};
-ghost use Rattle.astar.specs.Reached.{Ready};
-ghost use Rattle.path_finding.specs.Places.{known};
-ghost use Rattle.wire.specs.Wires.{vertices, ends as endsOf, wires};
-ghost use Rattle.net.specs.Nets.{END-WORDS, branched, routeNet, net, connectNet};
-ghost use Rattle.net.specs.Lent.{Space, Page, Bounds};
+ghost use lib.ListN.{length};
+ghost use Rattle.fixed.specs.Seen.{old, new};
+ghost use Rattle.nodes.specs.Graph.{NODES};
+ghost use Rattle.nodes.specs.Columns.{GRAPH-WORDS, graphIn};
+ghost use Rattle.path_finding.specs.Places.{knownTo};
+ghost use Rattle.wire.specs.Wires.{verticesIn, verticesOut};
+ghost use Rattle.net.specs.Nets.{END-WORDS, routeNet, net, connectNet, branchedIn, branchedOut};
+ghost use Rattle.net.specs.Lent.{Searching, Page, Bounds};
 ghost use Rattle.connect.specs.Turns.{turnAt, turnsTo, outcome};
 use net::Done;
 use net::Made;
 
-// The turn k of a net: its root wire first, then its endpoints in order.
+// The turn k of a net of which that is made: its root wire first, then its endpoints in order.
 fn turn_at(
-    xs: &[i32],
-    ys: &[i32],
-    links: &[u32],
-    marks: &[u32],
+    nodes: &[i32],
     n: usize,
     px: &[u32],
     py: &[u32],
     a: usize,
     b: usize,
     k: usize,
-    number: u32,
+    made: Made,
     x: &mut [i32],
     y: &mut [i32],
     letters: &mut [u8],
-    count: usize,
     rows: &mut [u32],
-    m: usize,
     joins: &mut [u32],
-    j: usize,
-    lx: &mut [i32],
-    ly: &mut [i32],
-    kinds: &mut [u8],
-    ways: &mut [u8],
+    cells: &mut [u64],
+    tree: &mut [u64],
+    list: &mut [u32],
 ) -> Made
-    requires { ⌜ (0 < n → Ready (graph n (now xs) (now ys) (now links) (now marks))) ⌝ }
+    requires { ⌜ Searching n (now nodes) (now cells) (now tree) (now list) ⌝ }
     requires { ⌜ Page (length (now x)) (length (now y)) (length (now letters)) (length (now rows)) ⌝ }
     requires { ⌜ (a < length (now px)) × (b < length (now px)) × (length (now px) ≤ 256) × (length (now py) ≡ length (now px)) × (768 ≤ length (now joins)) ⌝ }
-    requires { ⌜ (k < length (now px) + 1) × (k ≡ 0 → (count ≤ 512) × (m ≡ 0)) × (0 < k → number ≡ 0 → Bounds count m j) ⌝ }
-    requires { ⌜ Space (length (now lx)) (length (now ly)) (length (now kinds)) (length (now ways)) ⌝ }
-    ensures { λ r. ⌜ branched (r .number) (wires (vertices (ups (now (x .exit))) (ups (now (y .exit))) (now (letters .exit)) (r .n)) (endsOf (now (rows .exit)) (r .m))) (now (joins .exit)) (r .j) ≡ turnAt (graph n (now (xs .entry)) (now (ys .entry)) (now (links .entry)) (now (marks .entry))) (now (px .entry)) (now (py .entry)) a b k (branched number (wires (vertices (ups (now (x .entry))) (ups (now (y .entry))) (now (letters .entry)) count) (endsOf (now (rows .entry)) m)) (now (joins .entry)) j) ⌝ }
+    requires { ⌜ (k < length (now px) + 1) × (k ≡ 0 → (made .n ≤ 512) × (made .m ≡ 0)) × (0 < k → made .number ≡ 0 → Bounds (made .n) (made .m) (made .j)) ⌝ }
+    ensures { λ r. ⌜ branchedOut (r .number) x y letters (r .n) rows (r .m) joins (r .j) ≡ turnAt (graphIn n nodes) (old px) (old py) a b k (branchedIn (made .number) x y letters (made .n) rows (made .m) joins (made .j)) ⌝ }
 {
     if k == 0 {
         let t = net::root_at(
-            xs,
-            ys,
-            links,
-            marks,
+            nodes,
             n,
             px,
             py,
@@ -62,53 +51,42 @@ fn turn_at(
             x,
             y,
             letters,
-            count,
+            made.n,
             rows,
-            lx,
-            ly,
-            kinds,
-            ways,
+            cells,
+            tree,
+            list,
         );
         return Made {
             number: t.number,
             n: t.n,
             m: t.m,
-            j,
+            j: made.j,
         };
     }
     net::branch_at(
-        xs,
-        ys,
-        links,
-        marks,
+        nodes,
         n,
         px,
         py,
         a,
         b,
         k - 1,
-        number,
+        made,
         x,
         y,
         letters,
-        count,
         rows,
-        m,
         joins,
-        j,
-        lx,
-        ly,
-        kinds,
-        ways,
+        cells,
+        tree,
+        list,
     )
 }
 
 // All turns of a net.
 fn turns(
-    xs: &[i32],
-    ys: &[i32],
-    links: &[u32],
-    marks: &[u32],
+    nodes: &[i32],
     n: usize,
     px: &[u32],
     py: &[u32],
@@ -121,68 +99,49 @@ fn turns(
     rows: &mut [u32],
     joins: &mut [u32],
     j: usize,
-    lx: &mut [i32],
-    ly: &mut [i32],
-    kinds: &mut [u8],
-    ways: &mut [u8],
+    cells: &mut [u64],
+    tree: &mut [u64],
+    list: &mut [u32],
 ) -> Made
-    requires { ⌜ (0 < n → Ready (graph n (now xs) (now ys) (now links) (now marks))) ⌝ }
+    requires { ⌜ Searching n (now nodes) (now cells) (now tree) (now list) ⌝ }
     requires { ⌜ Page (length (now x)) (length (now y)) (length (now letters)) (length (now rows)) ⌝ }
     requires { ⌜ (a < length (now px)) × (b < length (now px)) × (length (now px) ≤ 256) × (length (now py) ≡ length (now px)) × (count ≤ 512) × (2 * j ≤ count) × (768 ≤ length (now joins)) ⌝ }
-    requires { ⌜ Space (length (now lx)) (length (now ly)) (length (now kinds)) (length (now ways)) ⌝ }
-    ensures { λ r. ⌜ branched (r .number) (wires (vertices (ups (now (x .exit))) (ups (now (y .exit))) (now (letters .exit)) (r .n)) (endsOf (now (rows .exit)) (r .m))) (now (joins .exit)) (r .j) ≡ turnsTo (graph n (now (xs .entry)) (now (ys .entry)) (now (links .entry)) (now (marks .entry))) (now (px .entry)) (now (py .entry)) a b (length (now (px .entry)) + 1) (branched 0 (wires (vertices (ups (now (x .entry))) (ups (now (y .entry))) (now (letters .entry)) count) (endsOf (now (rows .entry)) 0)) (now (joins .entry)) j) ⌝ }
+    ensures { λ r. ⌜ branchedOut (r .number) x y letters (r .n) rows (r .m) joins (r .j) ≡ turnsTo (graphIn n nodes) (old px) (old py) a b (length (old px) + 1) (branchedIn 0 x y letters count rows 0 joins j) ⌝ }
 {
-    let mut num: u32 = 0;
-    let mut total = count;
-    let mut m: usize = 0;
-    let mut joint = j;
+    let mut made = Made {
+        number: 0,
+        n: count,
+        m: 0,
+        j,
+    };
     let mut k: usize = 0;
     while k < px.len() + 1 {
-        let r = turn_at(
-            xs,
-            ys,
-            links,
-            marks,
+        made = turn_at(
+            nodes,
             n,
             px,
             py,
             a,
             b,
             k,
-            num,
+            made,
             x,
             y,
             letters,
-            total,
             rows,
-            m,
             joins,
-            joint,
-            lx,
-            ly,
-            kinds,
-            ways,
+            cells,
+            tree,
+            list,
         );
-        num = r.number;
-        total = r.n;
-        m = r.m;
-        joint = r.j;
         k += 1;
     }
-    Made {
-        number: num,
-        n: total,
-        m,
-        j: joint,
-    }
+    made
 }
 
 // Root wire and branches of a net with two endpoints or more.
 fn route_net(
-    xs: &[i32],
-    ys: &[i32],
-    links: &[u32],
-    marks: &[u32],
+    nodes: &[i32],
     n: usize,
     px: &[u32],
     py: &[u32],
@@ -193,26 +152,21 @@ fn route_net(
     joins: &mut [u32],
     j: usize,
     rows: &mut [u32],
-    lx: &mut [i32],
-    ly: &mut [i32],
-    kinds: &mut [u8],
-    ways: &mut [u8],
+    cells: &mut [u64],
+    tree: &mut [u64],
+    list: &mut [u32],
 ) -> Done
-    requires { ⌜ (0 < n → Ready (graph n (now xs) (now ys) (now links) (now marks))) ⌝ }
+    requires { ⌜ Searching n (now nodes) (now cells) (now tree) (now list) ⌝ }
     requires { ⌜ (2 ≤ length (now px)) × (length (now px) ≤ 256) × (length (now py) ≡ length (now px)) ⌝ }
     requires { ⌜ (512 ≤ length (now x)) × (512 ≤ length (now y)) × (512 ≤ length (now letters)) × (768 ≤ length (now joins)) × (count ≤ 512) × (2 * j ≤ count) ⌝ }
     requires { ⌜ length (now rows) ≡ END-WORDS ⌝ }
-    requires { ⌜ Space (length (now lx)) (length (now ly)) (length (now kinds)) (length (now ways)) ⌝ }
-    ensures { λ r. ⌜ net (r .number) (vertices (ups (now (x .exit))) (ups (now (y .exit))) (now (letters .exit)) (r .n)) (now (joins .exit)) (r .j) ≡ outcome (routeNet (graph n (now (xs .entry)) (now (ys .entry)) (now (links .entry)) (now (marks .entry))) (now (px .entry)) (now (py .entry)) (vertices (ups (now (x .entry))) (ups (now (y .entry))) (now (letters .entry)) count) (now (joins .entry)) j) ⌝ }
+    ensures { λ r. ⌜ net (r .number) (verticesOut x y letters (r .n)) (new joins) (r .j) ≡ outcome (routeNet (graphIn n nodes) (old px) (old py) (verticesIn x y letters count) (old joins) j) ⌝ }
 {
     let p = routing::pick_root_path(px, py);
     let a = p / px.len();
     let b = p % px.len();
     let t = turns(
-        xs,
-        ys,
-        links,
-        marks,
+        nodes,
         n,
         px,
         py,
@@ -225,10 +179,9 @@ fn route_net(
         rows,
         joins,
         j,
-        lx,
-        ly,
-        kinds,
-        ways,
+        cells,
+        tree,
+        list,
     );
     Done {
         number: t.number,
@@ -238,14 +191,14 @@ fn route_net(
 }
 
 // 12 if the net has under two endpoints, 13 if one of them is no node, else 0.
-fn prior(xs: &[i32], ys: &[i32], n: usize, px: &[u32], py: &[u32]) -> u32
-    requires { ⌜ (n ≤ length (now xs)) × (n ≤ length (now ys)) × (length (now py) ≡ length (now px)) ⌝ }
-    ensures { λ r. ⌜ r ≡ cond (ltb (length (now (px .entry))) 2) 12 (cond (known (take n (ups (now (xs .entry)))) (take n (ups (now (ys .entry)))) n (now (px .entry)) (now (py .entry)) (length (now (px .entry)))) 0 13) ⌝ }
+fn prior(nodes: &[i32], n: usize, px: &[u32], py: &[u32]) -> u32
+    requires { ⌜ (n ≤ NODES) × (GRAPH-WORDS ≤ length (now nodes)) × (length (now py) ≡ length (now px)) ⌝ }
+    ensures { λ r. ⌜ r ≡ cond (ltb (length (old px)) 2) 12 (cond (knownTo (graphIn n nodes) (old px) (old py) (length (old px))) 0 13) ⌝ }
 {
     if px.len() < 2 {
         return 12;
     }
-    if net::are_nodes(xs, ys, n, px, py) {
+    if net::are_nodes(nodes, n, px, py) {
         return 0;
     }
     13
@@ -253,10 +206,7 @@ fn prior(xs: &[i32], ys: &[i32], n: usize, px: &[u32], py: &[u32]) -> u32
 
 // Routes one net: its endpoints are px and py, and the page has `count` vertices and j junctions of earlier nets.
 pub fn connect_net(
-    xs: &[i32],
-    ys: &[i32],
-    links: &[u32],
-    marks: &[u32],
+    nodes: &[i32],
     n: usize,
     px: &[u32],
     py: &[u32],
@@ -267,27 +217,22 @@ pub fn connect_net(
     joins: &mut [u32],
     j: usize,
     rows: &mut [u32],
-    lx: &mut [i32],
-    ly: &mut [i32],
-    kinds: &mut [u8],
-    ways: &mut [u8],
+    cells: &mut [u64],
+    tree: &mut [u64],
+    list: &mut [u32],
 ) -> Done
-    requires { ⌜ (0 < n → Ready (graph n (now xs) (now ys) (now links) (now marks))) ⌝ }
+    requires { ⌜ Searching n (now nodes) (now cells) (now tree) (now list) ⌝ }
     requires { ⌜ (length (now px) ≤ 256) × (length (now py) ≡ length (now px)) ⌝ }
     requires { ⌜ (512 ≤ length (now x)) × (512 ≤ length (now y)) × (512 ≤ length (now letters)) × (768 ≤ length (now joins)) × (count ≤ 512) × (2 * j ≤ count) ⌝ }
     requires { ⌜ length (now rows) ≡ END-WORDS ⌝ }
-    requires { ⌜ Space (length (now lx)) (length (now ly)) (length (now kinds)) (length (now ways)) ⌝ }
-    ensures { λ r. ⌜ net (r .number) (vertices (ups (now (x .exit))) (ups (now (y .exit))) (now (letters .exit)) (r .n)) (now (joins .exit)) (r .j) ≡ connectNet (graph n (now (xs .entry)) (now (ys .entry)) (now (links .entry)) (now (marks .entry))) (now (px .entry)) (now (py .entry)) (vertices (ups (now (x .entry))) (ups (now (y .entry))) (now (letters .entry)) count) (now (joins .entry)) j ⌝ }
+    ensures { λ r. ⌜ net (r .number) (verticesOut x y letters (r .n)) (new joins) (r .j) ≡ connectNet (graphIn n nodes) (old px) (old py) (verticesIn x y letters count) (old joins) j ⌝ }
 {
-    let number = prior(xs, ys, n, px, py);
+    let number = prior(nodes, n, px, py);
     if number != 0 {
         return net::refuse(number, x, y, letters, count, joins, j);
     }
     let r = route_net(
-        xs,
-        ys,
-        links,
-        marks,
+        nodes,
         n,
         px,
         py,
@@ -298,10 +243,9 @@ pub fn connect_net(
         joins,
         j,
         rows,
-        lx,
-        ly,
-        kinds,
-        ways,
+        cells,
+        tree,
+        list,
     );
     if r.number != 0 {
         return net::refuse(r.number, x, y, letters, count, joins, j);

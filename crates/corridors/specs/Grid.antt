@@ -5,7 +5,10 @@ use Prim.Native.Nat.{ℕ, zero, suc, _+_, _-_, _*_, _/_, _%_}
 use lib.Dec.{eqb, ltb, leb}
 use lib.IntN.{ℤ}
 use lib.ListN.{length, getD, set}
+use Rattle.fixed.specs.Seen.{Lent, old}
+use Rattle.fixed.specs.Constants.{BOXES}
 use Rattle.fixed.specs.Up.{ups}
+use Rattle.fixed.specs.Columns.{column}
 use Rattle.corridors.specs.Sizes.{SPAN}
 
 -- padded boxes: from and to along, low and high across
@@ -18,6 +21,10 @@ pub record Boxes : Type 0 where
 
 abbrev pub boxes : ℕ → List ℤ → List ℤ → List ℤ → List ℤ → Boxes
 boxes n a b c d = record { count = n; from = ups a; to = ups b; low = ups c; high = ups d }
+
+-- the boxes in one list, four columns of 64: least x, least y, greatest x, greatest y
+abbrev pub stacked : ℕ → List ℤ → Boxes
+stacked n o = record { count = n; from = column 0 n o; to = column (BOXES * 2) n o; low = column BOXES n o; high = column (BOXES * 3) n o }
 
 -- the box k covers the cell that begins at (x, y): it fills the cells from its least to before its greatest coordinate
 unfoldable pub covers : Boxes → ℕ → ℕ → ℕ → Bool
@@ -68,3 +75,7 @@ row-runs b xs ys i = runs b xs (getD ys i 0) (length xs - 1)
 unfoldable pub all-runs : Boxes → List ℕ → List ℕ → ℕ → ℕ → List (List ℕ)
 all-runs b xs ys i zero = []
 all-runs b xs ys i (suc m) = row-runs b xs ys i ∷ all-runs b xs ys (suc i) m
+
+-- what a clause sees of lent edges
+abbrev pub boxesIn : ℕ → Lent (List ℤ) → Lent (List ℤ) → Lent (List ℤ) → Lent (List ℤ) → Boxes
+boxesIn n a b c d = boxes n (old a) (old b) (old c) (old d)

@@ -7,6 +7,7 @@ use lib.Dec.{ltb, leb}
 use lib.IntN.{ℤ}
 use lib.ListN.{length, getD, take, drop}
 use Rattle.fixed.specs.Up.{ups}
+use Rattle.fixed.specs.Columns.{column}
 use Rattle.corridors.specs.Sizes.{RUNS, WIDTH, ANCHORS}
 use Rattle.corridors.specs.Grid.{Boxes, covers, covered, add-cell}
 use Rattle.corridors.specs.Merge.{Table, Taken, Plan, Anchors, has, swap-remove}
@@ -63,9 +64,17 @@ listed l (suc m) = cond (getD l m false) (listed l m) (add-cell (listed l m) m)
 
 -- ---- while anchors are laid
 
--- the rows, and the first r anchors
-abbrev pub plan : ℕ → List ℕ → List ℤ → List ℤ → ℕ → Plan
-plan n l a b r = record { rows = table l 0 n; along = take r (ups a); across = take r (ups b) }
+-- the rows, and the first r anchors: along lie from the word a of the list on, across from the word c on
+abbrev pub plan : ℕ → List ℕ → List ℤ → ℕ → ℕ → ℕ → Plan
+plan n l o a c r = record { rows = table l 0 n; along = column a r o; across = column c r o }
+
+-- from o to o′ at most the ANCHORS words from a on and those from c on changed
+pub record Else (a c : ℕ) (o o′ : List ℤ) : Type 0 where
+  pub else : (j : ℕ) → (a ≤ j → j < a + ANCHORS → ⊥) → (c ≤ j → j < c + ANCHORS → ⊥) → getD (ups o′) j 0 ≡ getD (ups o) j 0
+
+-- from o to o′ at most the n words from d on changed
+pub record Within (d n : ℕ) (o o′ : List ℤ) : Type 0 where
+  pub within : (j : ℕ) → (d ≤ j → j < d + n → ⊥) → getD (ups o′) j 0 ≡ getD (ups o) j 0
 
 -- a step that may find no room answers: over ANCHORS if the plan has more anchors, else their count, with the plan in the lists
 pub record Laid (r : ℕ) (v g : Plan) : Type 0 where
@@ -79,8 +88,8 @@ pub record Emitted (r c u v w : ℕ) (a a′ b b′ : List ℕ) : Type 0 where
   pub side : r ≤ ANCHORS → b′ ≡ b ++ (w ∷ w ∷ [])
 
 -- the first n anchors
-abbrev pub found : ℕ → ℕ → List ℤ → List ℤ → Anchors
-found level n ax ay = record { level = level; xs = take n (ups ax); ys = take n (ups ay) }
+abbrev pub found : ℕ → ℕ → List ℤ → ℕ → ℕ → Anchors
+found level n o a c = record { level = level; xs = column a n o; ys = column c n o }
 
 pub record Crossed (n : ℕ) (v g : Anchors) : Type 0 where
   pub full : ANCHORS < n → ANCHORS < length (g .ys)

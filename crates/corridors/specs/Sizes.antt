@@ -27,8 +27,8 @@ abbrev pub ANCHORS : ℕ
 ANCHORS = 2048
 
 -- the count that says that there are more
-abbrev pub CROWDED : ℕ
-CROWDED = 2049
+abbrev pub TOO-MANY : ℕ
+TOO-MANY = 2049
 
 -- directions: 1 NegX and 2 PosX, 4 NegY and 8 PosY
 abbrev pub X : ℕ

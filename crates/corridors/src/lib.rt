@@ -2,18 +2,19 @@
 ghost use mathlib.Core.Path.{_≡_};
 ghost use Prim.Native.Nat.{_+_, _-_, _*_, _/_, _%_, _<_, _≤_};
 ghost use lib.Dec.{ltb};
-ghost use lib.ListN.{length, getD, take, drop};
+ghost use lib.ListN.{length, getD, set, take, drop};
 ghost use mathlib.Core.Bool.{false, cond};
-ghost use mathlib.Core.List.{[], _∷_, _++_};
+ghost use Rattle.fixed.specs.Seen.{old, new};
 ghost use Rattle.fixed.specs.Up.{ups};
 ghost use Rattle.fixed.specs.Steps.{middle};
-ghost use Rattle.fixed.specs.Constants.{BOXES};
+ghost use Rattle.fixed.specs.Constants.{BOXES, COORDS, PADDED-WORDS, ANCHOR-WORDS};
+ghost use Rattle.fixed.specs.Columns.{columnIn, columnOut, coordIn};
 ghost use Rattle.axis.specs.Axis.{index};
 ghost use Rattle.corridors.specs.Sizes.{EDGES, CELLS, RUNS, WIDTH, TABLE, SPAN, ANCHORS, X, Y};
-ghost use Rattle.corridors.specs.Grid.{boxes, ends-at, add-cell, runs, all-runs};
-ghost use Rattle.corridors.specs.Merge.{has, take-out, fold, corridor, row-corridors, corridors, implicit, anchors, directions};
-ghost use Rattle.corridors.specs.Answer.{Held, Roomy, Inside, Answered};
-ghost use Rattle.corridors.specs.Lent.{MarkedSpan, MarkedBox, MarkedRow, Clear, listed, few, row, table, Changed, removed, taken, plan, Laid, Emitted, found, Crossed};
+ghost use Rattle.corridors.specs.Grid.{boxes, stacked, ends-at, add-cell, runs, all-runs, boxesIn};
+ghost use Rattle.corridors.specs.Merge.{has, take-out, fold, corridor, row-corridors, corridors, implicit, turned, anchors, directions};
+ghost use Rattle.corridors.specs.Answer.{Held, Spaced, Roomy, Inside, Answered, Bounded};
+ghost use Rattle.corridors.specs.Lent.{Else, Within, MarkedSpan, MarkedBox, MarkedRow, Clear, listed, few, row, table, Changed, removed, taken, plan, Laid, Emitted, found, Crossed};
 
 // The most cells of a row.
 const CELLS: usize = 127;
@@ -30,7 +31,10 @@ const SPAN: usize = 256;
 // The most implicit anchors, and the count that says that there are more.
 pub const ANCHORS: usize = 2048;
 
-pub const CROWDED: usize = 2049;
+const TOO_MANY: usize = 2049;
+
+// The words of the scratch `rows`.
+pub const TABLE: usize = 8255;
 
 // Directions: NegX and PosX, NegY and PosY.
 const X: u32 = 3;
@@ -40,7 +44,7 @@ const Y: u32 = 12;
 // Marks those of m cells that begin from f to before t.
 fn mark_cells(marks: &mut [bool], xs: &[i32], m: usize, f: u32, t: u32)
     requires { ⌜ (m ≤ length (now marks)) × (m ≤ length (now xs)) ⌝ }
-    ensures { λ _. ⌜ MarkedSpan m f t (ups (now (xs .entry))) (now (marks .entry)) (now (marks .exit)) ⌝ }
+    ensures { λ _. ⌜ MarkedSpan m f t (ups (old xs)) (old marks) (new marks) ⌝ }
 {
     let mut k = 0;
     while k < m {
@@ -64,7 +68,7 @@ fn mark_box(
     j: usize,
 )
     requires { ⌜ Held n (now from) (now to) (now low) (now high) × (j < n) × (m ≤ length (now marks)) × (m ≤ length (now xs)) ⌝ }
-    ensures { λ _. ⌜ MarkedBox m (boxes n (now (from .entry)) (now (to .entry)) (now (low .entry)) (now (high .entry))) y j (ups (now (xs .entry))) (now (marks .entry)) (now (marks .exit)) ⌝ }
+    ensures { λ _. ⌜ MarkedBox m (boxesIn n from to low high) y j (ups (old xs)) (old marks) (new marks) ⌝ }
 {
     if y < fixed::at(low, j) {
         return;
@@ -90,7 +94,7 @@ fn mark_row(
     y: u32,
 )
     requires { ⌜ Held n (now from) (now to) (now low) (now high) × (m ≤ length (now marks)) × (m ≤ length (now xs)) × Clear m (now marks) ⌝ }
-    ensures { λ _. ⌜ MarkedRow m (boxes n (now (from .entry)) (now (to .entry)) (now (low .entry)) (now (high .entry))) y n (ups (now (xs .entry))) (now (marks .exit)) ⌝ }
+    ensures { λ _. ⌜ MarkedRow m (boxesIn n from to low high) y n (ups (old xs)) (new marks) ⌝ }
 {
     let mut j = 0;
     while j < n {
@@ -108,7 +112,7 @@ fn wide(x: u32) -> usize
 // How many runs the row i has.
 fn count(rows: &[u32], i: usize) -> usize
     requires { ⌜ (i < CELLS) × (TABLE ≤ length (now rows)) ⌝ }
-    ensures { λ r. ⌜ r ≡ few (getD (now (rows .entry)) (i * WIDTH) 0) ⌝ }
+    ensures { λ r. ⌜ r ≡ few (getD (old rows) (i * WIDTH) 0) ⌝ }
     ensures { λ r. ⌜ r ≤ RUNS ⌝ }
 {
     let c = wide(rows[i * WIDTH]);
@@ -121,7 +125,7 @@ fn count(rows: &[u32], i: usize) -> usize
 // Where the run v stands among the c of the row i, or c.
 fn find(rows: &[u32], i: usize, c: usize, v: u32) -> usize
     requires { ⌜ (i < CELLS) × (c ≤ RUNS) × (TABLE ≤ length (now rows)) ⌝ }
-    ensures { λ r. ⌜ r ≡ index (take c (drop (i * WIDTH + 1) (now (rows .entry)))) v ⌝ }
+    ensures { λ r. ⌜ r ≡ index (take c (drop (i * WIDTH + 1) (old rows))) v ⌝ }
 {
     let mut j = 0;
     while j < c {
@@ -136,8 +140,8 @@ fn find(rows: &[u32], i: usize, c: usize, v: u32) -> usize
 // Takes the run v out of the row i, the last run filling the hole. Whether it was there.
 fn remove(rows: &mut [u32], i: usize, v: u32) -> bool
     requires { ⌜ (i < CELLS) × (TABLE ≤ length (now rows)) ⌝ }
-    ensures { λ r. ⌜ r ≡ has (row (now (rows .entry)) i) v ⌝ }
-    ensures { λ r. ⌜ Changed (now (rows .entry)) (now (rows .exit)) i (removed (row (now (rows .entry)) i) v) ⌝ }
+    ensures { λ r. ⌜ r ≡ has (row (old rows) i) v ⌝ }
+    ensures { λ r. ⌜ Changed (old rows) (new rows) i (removed (row (old rows) i) v) ⌝ }
 {
     let c = count(rows, i);
     let f = find(rows, i, c, v);
@@ -153,7 +157,7 @@ fn remove(rows: &mut [u32], i: usize, v: u32) -> bool
 // Takes the run v out of each row from `from` on until a row lacks it: that row, or n.
 fn take_out(rows: &mut [u32], v: u32, from: usize, n: usize) -> usize
     requires { ⌜ (from ≤ n) × (n ≤ CELLS) × (TABLE ≤ length (now rows)) ⌝ }
-    ensures { λ r. ⌜ taken r (table (now (rows .exit)) 0 n) ≡ take-out v from (n - from) (table (now (rows .entry)) 0 n) ⌝ }
+    ensures { λ r. ⌜ taken r (table (new rows) 0 n) ≡ take-out v from (n - from) (table (old rows) 0 n) ⌝ }
 {
     let mut k = from;
     while k < n {
@@ -168,7 +172,7 @@ fn take_out(rows: &mut [u32], v: u32, from: usize, n: usize) -> usize
 // Whether the last of the c runs of the row i ends at the cell k.
 fn ends_at(rows: &[u32], i: usize, c: usize, k: usize) -> bool
     requires { ⌜ (i < CELLS) × (c ≤ RUNS) × (k < CELLS) × (TABLE ≤ length (now rows)) ⌝ }
-    ensures { λ r. ⌜ r ≡ ends-at (take c (drop (i * WIDTH + 1) (now (rows .entry)))) k ⌝ }
+    ensures { λ r. ⌜ r ≡ ends-at (take c (drop (i * WIDTH + 1) (old rows))) k ⌝ }
 {
     if c == 0 {
         return false;
@@ -179,7 +183,7 @@ fn ends_at(rows: &[u32], i: usize, c: usize, k: usize) -> bool
 // The empty cell k lengthens the last run of the row i, or begins one.
 fn add_cell(rows: &mut [u32], i: usize, k: usize)
     requires { ⌜ (i < CELLS) × (k < CELLS) × (few (getD (now rows) (i * WIDTH) 0) < RUNS) × (TABLE ≤ length (now rows)) ⌝ }
-    ensures { λ _. ⌜ Changed (now (rows .entry)) (now (rows .exit)) i (add-cell (row (now (rows .entry)) i) k) ⌝ }
+    ensures { λ _. ⌜ Changed (old rows) (new rows) i (add-cell (row (old rows) i) k) ⌝ }
 {
     let c = count(rows, i);
     if ends_at(rows, i, c, k) {
@@ -194,7 +198,7 @@ fn add_cell(rows: &mut [u32], i: usize, k: usize)
 // The cell k of the row i.
 fn cell(rows: &mut [u32], marks: &[bool], i: usize, k: usize)
     requires { ⌜ (k < length (now marks)) × (i < CELLS) × (k < CELLS) × (few (getD (now rows) (i * WIDTH) 0) < RUNS) × (TABLE ≤ length (now rows)) ⌝ }
-    ensures { λ _. ⌜ Changed (now (rows .entry)) (now (rows .exit)) i (cond (getD (now (marks .entry)) k false) (row (now (rows .entry)) i) (add-cell (row (now (rows .entry)) i) k)) ⌝ }
+    ensures { λ _. ⌜ Changed (old rows) (new rows) i (cond (getD (old marks) k false) (row (old rows) i) (add-cell (row (old rows) i) k)) ⌝ }
 {
     if marks[k] {
         return;
@@ -205,7 +209,7 @@ fn cell(rows: &mut [u32], marks: &[bool], i: usize, k: usize)
 // The empty runs of the m cells of the row i.
 fn list_runs(rows: &mut [u32], marks: &[bool], m: usize, i: usize)
     requires { ⌜ (m ≤ length (now marks)) × (i < CELLS) × (m ≤ CELLS) × (TABLE ≤ length (now rows)) ⌝ }
-    ensures { λ _. ⌜ Changed (now (rows .entry)) (now (rows .exit)) i (listed (now (marks .entry)) m) ⌝ }
+    ensures { λ _. ⌜ Changed (old rows) (new rows) i (listed (old marks) m) ⌝ }
 {
     rows[i * WIDTH] = 0;
     let mut k = 0;
@@ -229,7 +233,7 @@ fn empty_runs(
     i: usize,
 )
     requires { ⌜ Held n (now from) (now to) (now low) (now high) × (m ≤ length (now xs)) × (i < CELLS) × (m ≤ CELLS) × (TABLE ≤ length (now rows)) ⌝ }
-    ensures { λ _. ⌜ Changed (now (rows .entry)) (now (rows .exit)) i (runs (boxes n (now (from .entry)) (now (to .entry)) (now (low .entry)) (now (high .entry))) (ups (now (xs .entry))) y m) ⌝ }
+    ensures { λ _. ⌜ Changed (old rows) (new rows) i (runs (boxesIn n from to low high) (ups (old xs)) y m) ⌝ }
 {
     let mut marks = [false; CELLS];
     mark_row(&mut marks, from, to, low, high, n, xs, m, y);
@@ -250,7 +254,7 @@ fn all_runs(
     rows: &mut [u32],
 )
     requires { ⌜ Held b (now from) (now to) (now low) (now high) × (m ≡ length (now xs) - 1) × (n ≡ length (now ys) - 1) × (m ≤ CELLS) × (n ≤ CELLS) × (TABLE ≤ length (now rows)) ⌝ }
-    ensures { λ _. ⌜ table (now (rows .exit)) 0 n ≡ all-runs (boxes b (now (from .entry)) (now (to .entry)) (now (low .entry)) (now (high .entry))) (ups (now (xs .entry))) (ups (now (ys .entry))) 0 n ⌝ }
+    ensures { λ _. ⌜ table (new rows) 0 n ≡ all-runs (boxesIn b from to low high) (ups (old xs)) (ups (old ys)) 0 n ⌝ }
 {
     let mut i = 0;
     while i < n {
@@ -262,7 +266,7 @@ fn all_runs(
 
 // The steps of the coordinate i, or 0.
 fn coord(xs: &[i32], i: usize) -> u32
-    ensures { λ r. ⌜ r ≡ getD (ups (now (xs .entry))) i 0 ⌝ }
+    ensures { λ r. ⌜ r ≡ coordIn xs i ⌝ }
 {
     if i < xs.len() {
         return fixed::at(xs, i);
@@ -288,31 +292,33 @@ fn gaps(n: usize) -> usize
     n - 1
 }
 
-fn put_two(col: &mut [i32], made: usize, u: u32, v: u32)
-    requires { ⌜ made + 2 ≤ length (now col) ⌝ }
-    ensures { λ _. ⌜ take (made + 2) (ups (now (col .exit))) ≡ take made (ups (now (col .entry))) ++ (u ∷ v ∷ []) ⌝ }
+// Two words from the word p of the list on.
+fn put_two(list: &mut [i32], p: usize, u: u32, v: u32)
+    requires { ⌜ p + 2 ≤ length (now list) ⌝ }
+    ensures { λ _. ⌜ ups (new list) ≡ set (set (ups (old list)) p u) (p + 1) v ⌝ }
 {
-    fixed::put(col, made, u);
-    fixed::put(col, made + 1, v);
+    fixed::put(list, p, u);
+    fixed::put(list, p + 1, v);
 }
 
-// Two anchors after those made, if there is room.
-fn emit(along: &mut [i32], across: &mut [i32], made: usize, u: u32, v: u32, w: u32) -> usize
-    requires { ⌜ (made ≤ ANCHORS) × (ANCHORS ≤ length (now along)) × (ANCHORS ≤ length (now across)) ⌝ }
-    ensures { λ r. ⌜ Emitted r made u v w (take made (ups (now (along .entry)))) (take r (ups (now (along .exit)))) (take made (ups (now (across .entry)))) (take r (ups (now (across .exit)))) ⌝ }
+// Two anchors after those made, if there is room: their places along lie from the word a of the list on, those across from the word c on.
+fn emit(list: &mut [i32], a: usize, c: usize, made: usize, u: u32, v: u32, w: u32) -> usize
+    requires { ⌜ (made ≤ ANCHORS) × Spaced a c (length (now list)) ⌝ }
+    ensures { λ r. ⌜ Emitted r made u v w (columnIn a made list) (columnOut a r list) (columnIn c made list) (columnOut c r list) × Else a c (old list) (new list) ⌝ }
 {
     if ANCHORS < made + 2 {
-        return CROWDED;
+        return TOO_MANY;
     }
-    put_two(along, made, u, v);
-    put_two(across, made, w, w);
+    put_two(list, a + made, u, v);
+    put_two(list, c + made, w, w);
     made + 2
 }
 
 // The two anchors of the run v of the rows from i to before top.
 fn yields(
-    along: &mut [i32],
-    across: &mut [i32],
+    list: &mut [i32],
+    a: usize,
+    c: usize,
     xs: &[i32],
     ys: &[i32],
     i: usize,
@@ -320,20 +326,21 @@ fn yields(
     top: usize,
     made: usize,
 ) -> usize
-    requires { ⌜ (made ≤ ANCHORS) × (ANCHORS ≤ length (now along)) × (ANCHORS ≤ length (now across)) × Inside (length (now xs)) (ups (now xs)) ⌝ }
-    ensures { λ r. ⌜ Emitted r made (getD (ups (now (xs .entry))) (v / SPAN) 0 + 1) (getD (ups (now (xs .entry))) (v % SPAN) 0 - 1) (middle (getD (ups (now (ys .entry))) i 0) (getD (ups (now (ys .entry))) top 0)) (take made (ups (now (along .entry)))) (take r (ups (now (along .exit)))) (take made (ups (now (across .entry)))) (take r (ups (now (across .exit)))) ⌝ }
+    requires { ⌜ (made ≤ ANCHORS) × Spaced a c (length (now list)) × Inside (length (now xs)) (ups (now xs)) ⌝ }
+    ensures { λ r. ⌜ Emitted r made (coordIn xs (v / SPAN) + 1) (coordIn xs (v % SPAN) - 1) (middle (coordIn ys i) (coordIn ys top)) (columnIn a made list) (columnOut a r list) (columnIn c made list) (columnOut c r list) × Else a c (old list) (new list) ⌝ }
 {
     let lo = coord(xs, v / SPAN) + 1;
     let hi = less(coord(xs, v % SPAN));
     let mid = fixed::middle(coord(ys, i), coord(ys, top));
-    emit(along, across, made, lo, hi, mid)
+    emit(list, a, c, made, lo, hi, mid)
 }
 
 // The corridor of the run j of the row i, of n.
 fn corridor(
     rows: &mut [u32],
-    along: &mut [i32],
-    across: &mut [i32],
+    list: &mut [i32],
+    a: usize,
+    c: usize,
     xs: &[i32],
     ys: &[i32],
     n: usize,
@@ -341,33 +348,34 @@ fn corridor(
     j: usize,
     made: usize,
 ) -> usize
-    requires { ⌜ Roomy (now rows) (now along) (now across) × (i < n) × (n ≤ CELLS) × (j < length (row (now rows) i)) × (made ≤ ANCHORS) × Inside (length (now xs)) (ups (now xs)) ⌝ }
-    ensures { λ r. ⌜ Laid r (plan n (now (rows .exit)) (now (along .exit)) (now (across .exit)) r) (corridor (ups (now (xs .entry))) (ups (now (ys .entry))) n i j (plan n (now (rows .entry)) (now (along .entry)) (now (across .entry)) made)) ⌝ }
+    requires { ⌜ Roomy (now rows) (now list) a c × (i < n) × (n ≤ CELLS) × (j < length (row (now rows) i)) × (made ≤ ANCHORS) × Inside (length (now xs)) (ups (now xs)) ⌝ }
+    ensures { λ r. ⌜ Laid r (plan n (new rows) (new list) a c r) (corridor (ups (old xs)) (ups (old ys)) n i j (plan n (old rows) (old list) a c made)) × Else a c (old list) (new list) ⌝ }
 {
     let v = rows[i * WIDTH + 1 + j];
     let top = take_out(rows, v, i + 1, n);
-    yields(along, across, xs, ys, i, wide(v), top, made)
+    yields(list, a, c, xs, ys, i, wide(v), top, made)
 }
 
 // The corridors of the runs of the row i.
 fn row_corridors(
     rows: &mut [u32],
-    along: &mut [i32],
-    across: &mut [i32],
+    list: &mut [i32],
+    a: usize,
+    c: usize,
     xs: &[i32],
     ys: &[i32],
     n: usize,
     i: usize,
     begin: usize,
 ) -> usize
-    requires { ⌜ Roomy (now rows) (now along) (now across) × (i < n) × (n ≤ CELLS) × (begin ≤ ANCHORS) × Inside (length (now xs)) (ups (now xs)) ⌝ }
-    ensures { λ r. ⌜ Laid r (plan n (now (rows .exit)) (now (along .exit)) (now (across .exit)) r) (row-corridors (ups (now (xs .entry))) (ups (now (ys .entry))) n i (plan n (now (rows .entry)) (now (along .entry)) (now (across .entry)) begin)) ⌝ }
+    requires { ⌜ Roomy (now rows) (now list) a c × (i < n) × (n ≤ CELLS) × (begin ≤ ANCHORS) × Inside (length (now xs)) (ups (now xs)) ⌝ }
+    ensures { λ r. ⌜ Laid r (plan n (new rows) (new list) a c r) (row-corridors (ups (old xs)) (ups (old ys)) n i (plan n (old rows) (old list) a c begin)) × Else a c (old list) (new list) ⌝ }
 {
-    let c = count(rows, i);
+    let k = count(rows, i);
     let mut made = begin;
     let mut j = 0;
-    while j < c {
-        made = corridor(rows, along, across, xs, ys, n, i, j, made);
+    while j < k {
+        made = corridor(rows, list, a, c, xs, ys, n, i, j, made);
         if ANCHORS < made {
             return made;
         }
@@ -379,20 +387,21 @@ fn row_corridors(
 // The corridors of n rows.
 fn merged(
     rows: &mut [u32],
-    along: &mut [i32],
-    across: &mut [i32],
+    list: &mut [i32],
+    a: usize,
+    c: usize,
     xs: &[i32],
     ys: &[i32],
     n: usize,
     begin: usize,
 ) -> usize
-    requires { ⌜ Roomy (now rows) (now along) (now across) × (n ≤ CELLS) × (begin ≤ ANCHORS) × Inside (length (now xs)) (ups (now xs)) ⌝ }
-    ensures { λ r. ⌜ Laid r (plan n (now (rows .exit)) (now (along .exit)) (now (across .exit)) r) (fold (row-corridors (ups (now (xs .entry))) (ups (now (ys .entry))) n) 0 n (plan n (now (rows .entry)) (now (along .entry)) (now (across .entry)) begin)) ⌝ }
+    requires { ⌜ Roomy (now rows) (now list) a c × (n ≤ CELLS) × (begin ≤ ANCHORS) × Inside (length (now xs)) (ups (now xs)) ⌝ }
+    ensures { λ r. ⌜ Laid r (plan n (new rows) (new list) a c r) (fold (row-corridors (ups (old xs)) (ups (old ys)) n) 0 n (plan n (old rows) (old list) a c begin)) × Else a c (old list) (new list) ⌝ }
 {
     let mut made = begin;
     let mut i = 0;
     while i < n {
-        made = row_corridors(rows, along, across, xs, ys, n, i, made);
+        made = row_corridors(rows, list, a, c, xs, ys, n, i, made);
         if ANCHORS < made {
             return made;
         }
@@ -404,8 +413,9 @@ fn merged(
 // The corridors between the padded boxes, along one axis. Anchors are laid after the first `begin`.
 fn corridors(
     rows: &mut [u32],
-    along: &mut [i32],
-    across: &mut [i32],
+    list: &mut [i32],
+    a: usize,
+    c: usize,
     from: &[i32],
     to: &[i32],
     low: &[i32],
@@ -415,13 +425,13 @@ fn corridors(
     ys: &[i32],
     begin: usize,
 ) -> usize
-    requires { ⌜ Roomy (now rows) (now along) (now across) × Held b (now from) (now to) (now low) (now high) × (length (now xs) ≤ EDGES) × (length (now ys) ≤ EDGES) × (begin ≤ ANCHORS) × Inside (length (now xs)) (ups (now xs)) ⌝ }
-    ensures { λ r. ⌜ Laid r (plan (length (now (ys .entry)) - 1) (now (rows .exit)) (now (along .exit)) (now (across .exit)) r) (corridors (boxes b (now (from .entry)) (now (to .entry)) (now (low .entry)) (now (high .entry))) (ups (now (xs .entry))) (ups (now (ys .entry))) (take begin (ups (now (along .entry)))) (take begin (ups (now (across .entry))))) ⌝ }
+    requires { ⌜ Roomy (now rows) (now list) a c × Held b (now from) (now to) (now low) (now high) × (length (now xs) ≤ EDGES) × (length (now ys) ≤ EDGES) × (begin ≤ ANCHORS) × Inside (length (now xs)) (ups (now xs)) ⌝ }
+    ensures { λ r. ⌜ Laid r (plan (length (old ys) - 1) (new rows) (new list) a c r) (corridors (boxesIn b from to low high) (ups (old xs)) (ups (old ys)) (columnIn a begin list) (columnIn c begin list)) × Else a c (old list) (new list) ⌝ }
 {
     let m = gaps(xs.len());
     let n = gaps(ys.len());
     all_runs(from, to, low, high, b, xs, ys, m, n, rows);
-    merged(rows, along, across, xs, ys, n, begin)
+    merged(rows, list, a, c, xs, ys, n, begin)
 }
 
 // The first `level` anchors have X directions, the others Y; over ANCHORS in all: no room.
@@ -433,8 +443,9 @@ struct Found {
 // The implicit anchors between b padded boxes, whose sorted distinct coordinates are xs and ys.
 fn implicit(
     rows: &mut [u32],
-    ax: &mut [i32],
-    ay: &mut [i32],
+    list: &mut [i32],
+    a: usize,
+    c: usize,
     left: &[i32],
     right: &[i32],
     low: &[i32],
@@ -443,53 +454,69 @@ fn implicit(
     xs: &[i32],
     ys: &[i32],
 ) -> Found
-    requires { ⌜ Roomy (now rows) (now ax) (now ay) × Held b (now left) (now right) (now low) (now high) × (length (now xs) ≤ EDGES) × (length (now ys) ≤ EDGES) × Inside (length (now xs)) (ups (now xs)) × Inside (length (now ys)) (ups (now ys)) ⌝ }
-    ensures { λ r. ⌜ Crossed (r .all) (found (r .level) (r .all) (now (ax .exit)) (now (ay .exit))) (implicit (boxes b (now (left .entry)) (now (right .entry)) (now (low .entry)) (now (high .entry))) (boxes b (now (low .entry)) (now (high .entry)) (now (left .entry)) (now (right .entry))) (ups (now (xs .entry))) (ups (now (ys .entry)))) ⌝ }
+    requires { ⌜ Roomy (now rows) (now list) a c × Held b (now left) (now right) (now low) (now high) × (length (now xs) ≤ EDGES) × (length (now ys) ≤ EDGES) × Inside (length (now xs)) (ups (now xs)) × Inside (length (now ys)) (ups (now ys)) ⌝ }
+    ensures { λ r. ⌜ Crossed (r .all) (found (r .level) (r .all) (new list) a c) (implicit (boxesIn b left right low high) (boxesIn b low high left right) (ups (old xs)) (ups (old ys))) × Else a c (old list) (new list) ⌝ }
 {
-    let level = corridors(rows, ax, ay, left, right, low, high, b, xs, ys, 0);
+    let level = corridors(rows, list, a, c, left, right, low, high, b, xs, ys, 0);
     if ANCHORS < level {
         return Found {
             level: level,
             all: level,
         };
     }
-    let all = corridors(rows, ay, ax, low, high, left, right, b, ys, xs, level);
+    let all = corridors(rows, list, c, a, low, high, left, right, b, ys, xs, level);
     Found {
         level: level,
         all: all,
     }
 }
 
+// The same; the boxes are lent as columns of one list.
+fn between(
+    rows: &mut [u32],
+    list: &mut [i32],
+    a: usize,
+    c: usize,
+    boxes: &[i32],
+    b: usize,
+    xs: &[i32],
+    ys: &[i32],
+) -> Found
+    requires { ⌜ Roomy (now rows) (now list) a c × (b ≤ BOXES) × (PADDED-WORDS ≤ length (now boxes)) × (length (now xs) ≤ EDGES) × (length (now ys) ≤ EDGES) × Inside (length (now xs)) (ups (now xs)) × Inside (length (now ys)) (ups (now ys)) ⌝ }
+    ensures { λ r. ⌜ Crossed (r .all) (found (r .level) (r .all) (new list) a c) (implicit (stacked b (old boxes)) (turned (stacked b (old boxes))) (ups (old xs)) (ups (old ys))) × Else a c (old list) (new list) ⌝ }
+{
+    implicit(
+        rows,
+        list,
+        a,
+        c,
+        &boxes[..b],
+        &boxes[fixed::MAX_X..fixed::MAX_X + b],
+        &boxes[fixed::MIN_Y..fixed::MIN_Y + b],
+        &boxes[fixed::MAX_Y..fixed::MAX_Y + b],
+        b,
+        xs,
+        ys,
+    )
+}
+
 // The implicit anchors between b padded boxes. xs and ys are lent for the axis lists.
 fn make(
     rows: &mut [u32],
-    ax: &mut [i32],
-    ay: &mut [i32],
+    list: &mut [i32],
+    a: usize,
+    c: usize,
     xs: &mut [i32],
     ys: &mut [i32],
-    left: &[i32],
-    right: &[i32],
-    low: &[i32],
-    high: &[i32],
+    boxes: &[i32],
     b: usize,
 ) -> Found
-    requires { ⌜ Roomy (now rows) (now ax) (now ay) × (EDGES ≤ length (now xs)) × (EDGES ≤ length (now ys)) × Held b (now left) (now right) (now low) (now high) × (b ≤ BOXES) × Inside b (ups (now left)) × Inside b (ups (now right)) × Inside b (ups (now low)) × Inside b (ups (now high)) ⌝ }
-    ensures { λ r. ⌜ Crossed (r .all) (found (r .level) (r .all) (now (ax .exit)) (now (ay .exit))) (anchors (boxes b (now (left .entry)) (now (right .entry)) (now (low .entry)) (now (high .entry)))) ⌝ }
+    requires { ⌜ Roomy (now rows) (now list) a c × (EDGES ≤ length (now xs)) × (EDGES ≤ length (now ys)) × (b ≤ BOXES) × (PADDED-WORDS ≤ length (now boxes)) × Bounded b (now boxes) ⌝ }
+    ensures { λ r. ⌜ Crossed (r .all) (found (r .level) (r .all) (new list) a c) (anchors (stacked b (old boxes))) × Else a c (old list) (new list) ⌝ }
 {
-    let nx = axis::edges(xs, left, right, b);
-    let ny = axis::edges(ys, low, high, b);
-    implicit(
-        rows,
-        ax,
-        ay,
-        left,
-        right,
-        low,
-        high,
-        b,
-        &xs[..nx],
-        &ys[..ny],
-    )
+    let nx = axis::edges(xs, boxes, 0, b);
+    let ny = axis::edges(ys, boxes, 1, b);
+    between(rows, list, a, c, boxes, b, &xs[..nx], &ys[..ny])
 }
 
 // The directions of the anchor i, if the first `level` lie in rows.
@@ -502,39 +529,35 @@ fn way(level: usize, i: usize) -> u32
     Y
 }
 
-// The directions of n anchors, the first `level` of which lie in rows.
-fn mark(col: &mut [u32], level: usize, n: usize)
-    requires { ⌜ n ≤ length (now col) ⌝ }
-    ensures { λ _. ⌜ take n (now (col .exit)) ≡ directions level n ⌝ }
+// The directions of n anchors, the first `level` of which lie in rows: the n words from the word d of the list on.
+fn mark(list: &mut [i32], d: usize, level: usize, n: usize)
+    requires { ⌜ d + n ≤ length (now list) ⌝ }
+    ensures { λ _. ⌜ (columnOut d n list ≡ directions level n) × Within d n (old list) (new list) ⌝ }
 {
     let mut i = 0;
     while i < n {
-        col[i] = way(level, i);
+        fixed::put(list, d + i, way(level, i));
         i += 1;
     }
 }
 
-// The implicit anchors between b padded boxes: their count, with places and directions in the columns, or CROWDED. rows, xs and ys are scratch.
+// The implicit anchors between b padded boxes: their count, with places and directions behind the first n anchors in the columns of the list, or TOO_MANY. rows, xs and ys are scratch.
 pub fn generate_implicit_anchors(
     rows: &mut [u32],
-    ax: &mut [i32],
-    ay: &mut [i32],
+    list: &mut [i32],
+    n: usize,
     xs: &mut [i32],
     ys: &mut [i32],
-    ways: &mut [u32],
-    left: &[i32],
-    right: &[i32],
-    low: &[i32],
-    high: &[i32],
+    boxes: &[i32],
     b: usize,
 ) -> usize
-    requires { ⌜ Roomy (now rows) (now ax) (now ay) × (EDGES ≤ length (now xs)) × (EDGES ≤ length (now ys)) × (ANCHORS ≤ length (now ways)) × Held b (now left) (now right) (now low) (now high) × (b ≤ BOXES) × Inside b (ups (now left)) × Inside b (ups (now right)) × Inside b (ups (now low)) × Inside b (ups (now high)) ⌝ }
-    ensures { λ r. ⌜ Answered r (now (ax .exit)) (now (ay .exit)) (now (ways .exit)) (anchors (boxes b (now (left .entry)) (now (right .entry)) (now (low .entry)) (now (high .entry)))) ⌝ }
+    requires { ⌜ (TABLE ≤ length (now rows)) × (n + ANCHORS ≤ COORDS) × (ANCHOR-WORDS ≤ length (now list)) × (EDGES ≤ length (now xs)) × (EDGES ≤ length (now ys)) × (b ≤ BOXES) × (PADDED-WORDS ≤ length (now boxes)) × Bounded b (now boxes) ⌝ }
+    ensures { λ r. ⌜ Answered r n (old list) (new list) (anchors (stacked b (old boxes))) ⌝ }
 {
-    let f = make(rows, ax, ay, xs, ys, left, right, low, high, b);
+    let f = make(rows, list, n, fixed::COORDS + n, xs, ys, boxes, b);
     if ANCHORS < f.all {
-        return CROWDED;
+        return TOO_MANY;
     }
-    mark(ways, f.level, f.all);
+    mark(list, fixed::COORDS * 2 + n, f.level, f.all);
     f.all
 }

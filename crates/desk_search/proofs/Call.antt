@@ -12,13 +12,17 @@ use Rattle.fixed.specs.Up.{up, ups}
 use Rattle.fixed.proofs.Bools.{and-left, and-right}
 use Rattle.fixed.proofs.Lists.{length-ups}
 use Rattle.nodes.specs.Graph.{NODES}
+use Rattle.nodes.specs.Columns.{GRAPH-WORDS}
 use Rattle.anchors.specs.Records.{Records, records}
 use Rattle.path_finding.specs.Line.{table, place-at, kind-at, direction-at, Written}
 use Rattle.search.specs.Searched.{Ended}
-use Rattle.page_graph.specs.Page.{crowded}
-use Rattle.page_graph.specs.Lent.{Asked}
+use Rattle.page_graph.specs.declared.Graphed.{Graphed}
+use Rattle.page_graph.specs.Page.{crowded, page-graph}
+use Rattle.page_graph.specs.Lent.{Asked, Answered}
 use Rattle.page_search.specs.Page.{PageSearched, searchNumber as pageNumber, searchLine as pageLine}
+use Rattle.page_search.specs.Lent.{Tried, Searchable}
 use Rattle.page_search.specs.Exists.{Sound, PageTold}
+use Rattle.page_search.proofs.Building.{searchable, page-searched}
 use Rattle.page_search.proofs.Theorem.{page-searches}
 use Rattle.desk.specs.Sizes.{DESK}
 use Rattle.book.specs.Book.{Lists, Seen, okLists, okPlace, valid, ranged, answer}
@@ -90,6 +94,9 @@ module _ (l : Lists) (ok : okLists l ≡ true) (bs ps ns es : List ℕ) (nb np n
 
   pub page-asked : Asked lent
   page-asked = rw the-page (asked l ok)
+
+  pub page-sound : Sound lent
+  page-sound = rw the-page (sound l ok)
 
   module _ (q : Query) (pruned : Bool) (num nodes : ℕ) (o : Outputs) (xs ys kinds dirs : List ℕ) (pruned-is : pruned ≡ isPruned q)
       (ran : PageSearched lent pruned (q .x) (q .y) (q .end-x) (q .end-y) num nodes xs ys kinds dirs) where
@@ -175,19 +182,29 @@ module _ (ws : List ℕ) (prune x y : ℕ) (ex ey lx ly : List ℤ) (kinds dirs 
   module _ (v : valid (bookOf ws) ≡ true) (bs ps ns es : List ℕ) (nb np nn ne : ℕ) (eb : bs ≡ flat (bookOf ws .lists .boxes)) (ib : nb ≡ length (bookOf ws .lists .boxes))
       (ep : ps ≡ flat (bookOf ws .lists .ports)) (ip : np ≡ length (bookOf ws .lists .ports)) (en : ns ≡ flat (bookOf ws .lists .nets)) (in-is : nn ≡ length (bookOf ws .lists .nets))
       (ee : es ≡ flat (bookOf ws .lists .ends)) (ie : ne ≡ length (bookOf ws .lists .ends)) where
-    pub valid-asks : okQuery Q ≡ true → Asked (records bs nb ps np ns nn es ne) × Ended ex ey
-    valid-asks e =
-        let ok = lists-ok (bookOf ws) v in
-        (page-asked (bookOf ws .lists) ok bs ps ns es nb np nn ne eb ib ep ip en in-is ee ie, query-ends prune x y ex ey e)
+    abbrev R : Records
+    R = records bs nb ps np ns nn es ne
 
-    pub valid-on : (r nodes : ℕ) (lx′ ly′ : List ℤ) (kinds′ dirs′ : List ℕ) → length lx′ ≡ length lx → length ly′ ≡ length ly → length kinds′ ≡ length kinds → length dirs′ ≡ length dirs
-        → PageSearched (records bs nb ps np ns nn es ne) (eqb prune 1) x y (ups ex) (ups ey) r nodes (ups lx′) (ups ly′) kinds′ dirs′
-        → (r ≡ searchNumber (bookOf ws .lists) Q) × (outputs lx′ ly′ kinds′ dirs′ ≡ left r (bookOf ws .lists) Q O)
-    valid-on r nodes lx′ ly′ kinds′ dirs′ a b c d ran =
-        let ok = lists-ok (bookOf ws) v in (
-          page-number (bookOf ws .lists) ok bs ps ns es nb np nn ne eb ib ep ip en in-is ee ie Q (eqb prune 1) r nodes O (ups lx′) (ups ly′) kinds′ dirs′ refl ran,
-          page-left (bookOf ws .lists) ok bs ps ns es nb np nn ne eb ib ep ip en in-is ee ie Q (eqb prune 1) r nodes O (ups lx′) (ups ly′) kinds′ dirs′ refl ran (length-ups lx′ ∙ a ∙ sym (length-ups lx)) (length-ups ly′ ∙ b ∙ sym (length-ups ly)) c d,
-        )
+    pub valid-asks : Asked R
+    valid-asks = page-asked (bookOf ws .lists) (lists-ok (bookOf ws) v) bs ps ns es nb np nn ne eb ib ep ip en in-is ee ie
+
+    valid-sound : Sound R
+    valid-sound = page-sound (bookOf ws .lists) (lists-ok (bookOf ws) v) bs ps ns es nb np nn ne eb ib ep ip en in-is ee ie
+
+    -- the page's graph, and the search on it
+    module _ (g : Graphed) (l : List ℤ) (told : Answered g l (crowded R) (page-graph R (eqb prune 1))) where
+      pub valid-searchable : GRAPH-WORDS ≤ length l → Searchable g l
+      valid-searchable h = searchable R valid-sound (eqb prune 1) g l told h
+
+      pub valid-on : (r nodes : ℕ) (lx′ ly′ : List ℤ) (kinds′ dirs′ : List ℕ) → length lx′ ≡ length lx → length ly′ ≡ length ly → length kinds′ ≡ length kinds → length dirs′ ≡ length dirs
+          → Tried g l x y (ups ex) (ups ey) r nodes (ups lx′) (ups ly′) kinds′ dirs′
+          → (r ≡ searchNumber (bookOf ws .lists) Q) × (outputs lx′ ly′ kinds′ dirs′ ≡ left r (bookOf ws .lists) Q O)
+      valid-on r nodes lx′ ly′ kinds′ dirs′ a b c d tried =
+          let ok = lists-ok (bookOf ws) v in
+          let ran = page-searched R valid-sound (eqb prune 1) g l told x y (ups ex) (ups ey) r nodes (ups lx′) (ups ly′) kinds′ dirs′ tried in (
+            page-number (bookOf ws .lists) ok bs ps ns es nb np nn ne eb ib ep ip en in-is ee ie Q (eqb prune 1) r nodes O (ups lx′) (ups ly′) kinds′ dirs′ refl ran,
+            page-left (bookOf ws .lists) ok bs ps ns es nb np nn ne eb ib ep ip en in-is ee ie Q (eqb prune 1) r nodes O (ups lx′) (ups ly′) kinds′ dirs′ refl ran (length-ups lx′ ∙ a ∙ sym (length-ups lx)) (length-ups ly′ ∙ b ∙ sym (length-ups ly)) c d,
+          )
 
 pub as-asked : (ws : List ℕ) (o p : Outputs) (r prune u v : ℕ) (x y : ℤ) (ex ey : List ℤ) → u ≡ up x → v ≡ up y
     → (r ≡ deskNumber ws o (query prune u v ex ey)) × (p ≡ deskOutputs ws o (query prune u v ex ey))

@@ -4,7 +4,7 @@
 use mathlib.Core.Path.{_≡_, refl, sym, ap, _∙_}
 use mathlib.Core.List.{List, [], _∷_, _++_}
 use mathlib.Core.Bool.{Bool, true, false, cond}
-use Prim.Native.Nat.{ℕ, zero, suc, _+_, _<_, _≤_}
+use Prim.Native.Nat.{ℕ, zero, suc, _+_, _-_, _<_, _≤_}
 use native.Mathlib.Numerals.{add-one}
 use native.Mathlib.Omega.{arith}
 use borrow.Author.Tests.{le-ltb, ltb-true, ltb-false}
@@ -12,7 +12,7 @@ use lib.Dec.{ltb, eqb}
 use lib.IntN.{ℤ}
 use lib.ListN.{length, replicate, replicate-append-replicate}
 use Rattle.fixed.specs.Up.{BIAS, ups}
-use Rattle.fixed.proofs.Lists.{length-ups}
+use Rattle.zeros.specs.Zeros.{closed}
 use Rattle.path_finding.specs.Line.{table, place-at, kind-at, direction-at, START, NORMAL, END, Written}
 use Rattle.desk_search.specs.Search.{Outputs, outputs, zeros}
 
@@ -49,11 +49,16 @@ no-line cx cy links l xs ys kinds dirs o el a b c d w =
     w .direction-is ∙ rw (el, d) (constant (direction-at links []) 0 (no-direction links) (length (o .dirs))) in
     rw (e₁, e₂, e₃, e₄)
 
-pub no-line-lent : (cx cy links l : List ℕ) (lx lx′ ly ly′ : List ℤ) (kinds kinds′ dirs dirs′ : List ℕ) → l ≡ [] → length lx′ ≡ length lx → length ly′ ≡ length ly
-    → length kinds′ ≡ length kinds → length dirs′ ≡ length dirs → Written cx cy links l (ups lx′) (ups ly′) kinds′ dirs′
-    → outputs lx′ ly′ kinds′ dirs′ ≡ zeros (outputs lx ly kinds dirs)
-no-line-lent cx cy links l lx lx′ ly ly′ kinds kinds′ dirs dirs′ el a b c d w =
-    no-line cx cy links l (ups lx′) (ups ly′) kinds′ dirs′ (outputs lx ly kinds dirs) el (length-ups lx′ ∙ a ∙ sym (length-ups lx)) (length-ups ly′ ∙ b ∙ sym (length-ups ly)) c d w
+-- zeros from the first entry on
+closed-all : (z : ℕ) (l : List ℕ) → closed z 0 l ≡ replicate (length l) z
+unfolding closed
+closed-all z l = let e : length l - 0 ≡ length l = omega arith in rw e
+
+pub no-line-lent : (lx lx′ ly ly′ : List ℤ) (kinds kinds′ dirs dirs′ : List ℕ) → ups lx′ ≡ closed BIAS 0 (ups lx) → ups ly′ ≡ closed BIAS 0 (ups ly)
+    → kinds′ ≡ closed 0 0 kinds → dirs′ ≡ closed 0 0 dirs → outputs lx′ ly′ kinds′ dirs′ ≡ zeros (outputs lx ly kinds dirs)
+unfolding zeros
+no-line-lent lx lx′ ly ly′ kinds kinds′ dirs dirs′ a b c d =
+    rw (a, b, c, d, closed-all BIAS (ups lx), closed-all BIAS (ups ly), closed-all 0 kinds, closed-all 0 dirs)
 
 -- of a line of m nodes
 pub end-alone : (m k : ℕ) → kind-at m k ≡ END → k + 1 ≡ m

@@ -64,10 +64,10 @@ fn is_lent(desk: usize, lx: usize, ly: usize, kinds: usize, dirs: usize) -> bool
 fn no_line(lx: &mut [i32], ly: &mut [i32], kinds: &mut [u8], dirs: &mut [u8])
     ensures { λ _. ⌜ outputs (now (lx .exit)) (now (ly .exit)) (now (kinds .exit)) (now (dirs .exit)) ≡ zeros (outputs (now (lx .entry)) (now (ly .entry)) (now (kinds .entry)) (now (dirs .entry))) ⌝ }
 {
-    let steps: [i32; 1] = [0; 1];
-    let links: [u32; 1] = [0; 1];
-    let line: [u32; 1] = [0; 1];
-    path_finding::write_line(&steps, &steps, &links, 0, &line[..0], lx, ly, kinds, dirs);
+    zeros::zero_steps(lx, 0);
+    zeros::zero_steps(ly, 0);
+    zeros::zero_bytes(kinds, 0);
+    zeros::zero_bytes(dirs, 0);
 }
 
 // A search on a desk that is valid, with arguments that keep their ranges: 8, 9, 10, 11 or 0.
@@ -97,7 +97,8 @@ fn search_valid(
     let ports = select::rows_of(desk, book::Kind::Port);
     let nets = select::rows_of(desk, book::Kind::Net);
     let ends = select::rows_of(desk, book::Kind::End);
-    let a = page_search::search_rows(
+    let mut nodes: [i32; nodes::GRAPH_WORDS] = [0; nodes::GRAPH_WORDS];
+    let g = page_graph::graph_of(
         boxes,
         nb,
         ports,
@@ -107,15 +108,9 @@ fn search_valid(
         ends,
         ne,
         prune == 1,
-        x,
-        y,
-        ex,
-        ey,
-        lx,
-        ly,
-        kinds,
-        dirs,
+        &mut nodes,
     );
+    let a = page_search::search_on(&nodes, g, x, y, ex, ey, lx, ly, kinds, dirs);
     a.number
 }
 

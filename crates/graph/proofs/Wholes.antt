@@ -7,6 +7,7 @@ use native.Mathlib.Omega.{arith}
 use lib.IntN.{ℤ}
 use lib.ListN.{length, getD, take}
 use Rattle.fixed.specs.Up.{ups}
+use Rattle.fixed.specs.Columns.{column}
 use Rattle.fixed.proofs.Lists.{ups-take}
 use Rattle.sightline.specs.Sight.{Rising}
 use Rattle.axis.specs.Axis.{axis}
@@ -20,19 +21,19 @@ use Rattle.prune.specs.Prune.{prune}
 use Rattle.prune.proofs.Lent.{prune-less}
 use Rattle.graph.specs.Build.{Boxes, boxes-of, whole, made, Made}
 
-pub axis-is : (l cs : List ℤ) (r n : ℕ) → take r (ups l) ≡ axis (ups cs) n → ups (take r l) ≡ axis (ups cs) n
+pub axis-is : (l : List ℤ) (cs : List ℕ) (r n : ℕ) → take r (ups l) ≡ axis cs n → ups (take r l) ≡ axis cs n
 axis-is l cs r n e = ups-take r l ∙ e
 
-pub axis-rising : (l cs : List ℤ) (r n : ℕ) → take r (ups l) ≡ axis (ups cs) n → Rising (ups (take r l))
+pub axis-rising : (l : List ℤ) (cs : List ℕ) (r n : ℕ) → take r (ups l) ≡ axis cs n → Rising (ups (take r l))
 axis-rising l cs r n e = rw (axis-is l cs r n e) (record { rising = λ j k h lt. by j k h lt (same? j k) })
   where
-    by : (j k : ℕ) → j ≤ k → k < length (axis (ups cs) n) → Same j k → getD (axis (ups cs) n) j 0 ≤ getD (axis (ups cs) n) k 0
+    by : (j k : ℕ) → j ≤ k → k < length (axis cs n) → Same j k → getD (axis cs n) j 0 ≤ getD (axis cs n) k 0
     by j k h lt (yes e) = rw e (omega arith)
-    by j k h lt (no m) = omega (arith, axis-sorted (ups cs) n .rising .strict j k (omega arith) lt)
+    by j k h lt (no m) = omega (arith, axis-sorted cs n .rising .strict j k (omega arith) lt)
 
-pub whole-by : (bx by ex ey : List ℤ) (n : ℕ) (ax ay cx cy : List ℤ) (dirs own : List ℕ) (explicit k : ℕ) → ups ax ≡ axis (ups cx) k → ups ay ≡ axis (ups cy) k → build (page bx by ex ey n ax ay) (anchors cx cy dirs own explicit k) ≡ whole (boxes-of bx by ex ey n) (anchors cx cy dirs own explicit k)
+pub whole-by : (boxes : List ℤ) (n : ℕ) (ax ay l : List ℤ) (explicit k : ℕ) → ups ax ≡ axis (column 0 k l) k → ups ay ≡ axis (column 2560 k l) k → build (page boxes n ax ay) (anchors l explicit k) ≡ whole (boxes-of boxes n) (anchors l explicit k)
 unfolding whole
-whole-by bx by ex ey n ax ay cx cy dirs own explicit k p q = rw (p, q)
+whole-by boxes n ax ay l explicit k p q = rw (p, q)
 
 pub made-full : {r : ℕ} {v g h : Graph} → Built r v g → NODES < r → Made r v g h
 made-full b l = record { full = b .full; fits = λ h. absurd (omega arith); same = λ h. absurd (omega arith) }

@@ -2,9 +2,10 @@
 use mathlib.Core.Path.{_≡_}
 use mathlib.Core.Bool.{Bool, cond}
 use mathlib.Core.List.{List}
-use Prim.Native.Nat.{ℕ, _<_, _≤_}
+use Prim.Native.Nat.{ℕ, _<_, _≤_, _*_}
 use lib.IntN.{ℤ}
-use Rattle.fixed.specs.Up.{ups}
+use Rattle.fixed.specs.Constants.{BOXES}
+use Rattle.fixed.specs.Columns.{column}
 use Rattle.axis.specs.Axis.{axis}
 use Rattle.nodes.specs.Graph.{Graph, NODES}
 use Rattle.scan.specs.Scan.{Page, Anchors, build}
@@ -18,8 +19,8 @@ pub record Boxes : Type 0 where
   pub max-y : List ℕ
   pub count : ℕ
 
-abbrev pub boxes-of : List ℤ → List ℤ → List ℤ → List ℤ → ℕ → Boxes
-boxes-of bx by ex ey n = record { min-x = ups bx; min-y = ups by; max-x = ups ex; max-y = ups ey; count = n }
+abbrev pub boxes-of : List ℤ → ℕ → Boxes
+boxes-of l n = record { min-x = column 0 n l; min-y = column BOXES n l; max-x = column (BOXES * 2) n l; max-y = column (BOXES * 3) n l; count = n }
 
 abbrev pub page-of : Boxes → Anchors → Page
 page-of b s =

@@ -1,111 +1,59 @@
 // The graph of padded boxes and anchors: axis lists, nodes, scans, and pruning if it is asked for.
 ghost use Prim.Native.Nat.{_≤_};
 ghost use lib.ListN.{length};
-ghost use Rattle.nodes.specs.Lent.{graph, Roomy, Built};
-ghost use Rattle.sightline.specs.Lent.{Held};
-ghost use Rattle.scan.specs.Lent.{anchors as anchors-of, Anchored};
+ghost use Rattle.fixed.specs.Seen.{old};
+ghost use Rattle.fixed.specs.Constants.{BOXES, COORDS, PADDED-WORDS, ANCHOR-WORDS};
+ghost use Rattle.nodes.specs.Columns.{GRAPH-WORDS, graphOut};
+ghost use Rattle.nodes.specs.Lent.{Built};
+ghost use Rattle.scan.specs.Lent.{anchors as anchors-of};
 ghost use Rattle.graph.specs.Build.{boxes-of, whole, made, Made};
 
 // The graph of padded boxes and anchors, not pruned: how many nodes it has, or more than NODES where it would have more.
 fn whole(
-    bx: &[i32],
-    by: &[i32],
-    ex: &[i32],
-    ey: &[i32],
-    boxes: usize,
-    cx: &[i32],
-    cy: &[i32],
-    dirs: &[u32],
-    own: &[u32],
+    boxes: &[i32],
+    b: usize,
+    anchors: &[i32],
     explicit: usize,
-    anchors: usize,
+    a: usize,
     ax: &mut [i32],
     ay: &mut [i32],
-    xs: &mut [i32],
-    ys: &mut [i32],
-    links: &mut [u32],
-    marks: &mut [u32],
+    nodes: &mut [i32],
 ) -> usize
-    requires { ⌜ Held boxes (now bx) (now by) (now ex) (now ey) ⌝ }
-    requires { ⌜ Anchored (now cx) (now cy) (now dirs) (now own) anchors ⌝ }
-    requires { ⌜ Roomy (now xs) (now ys) (now links) (now marks) ⌝ }
-    requires { ⌜ (anchors ≤ length (now ax)) × (anchors ≤ length (now ay)) ⌝ }
-    ensures { λ r. ⌜ Built r (graph r (now (xs .exit)) (now (ys .exit)) (now (links .exit)) (now (marks .exit))) (whole (boxes-of (now (bx .entry)) (now (by .entry)) (now (ex .entry)) (now (ey .entry)) boxes) (anchors-of (now (cx .entry)) (now (cy .entry)) (now (dirs .entry)) (now (own .entry)) explicit anchors)) ⌝ }
+    requires { ⌜ (b ≤ BOXES) × (PADDED-WORDS ≤ length (now boxes)) ⌝ }
+    requires { ⌜ (a ≤ COORDS) × (ANCHOR-WORDS ≤ length (now anchors)) ⌝ }
+    requires { ⌜ GRAPH-WORDS ≤ length (now nodes) ⌝ }
+    requires { ⌜ (a ≤ length (now ax)) × (a ≤ length (now ay)) ⌝ }
+    ensures { λ r. ⌜ Built r (graphOut r nodes) (whole (boxes-of (old boxes) b) (anchors-of (old anchors) explicit a)) ⌝ }
 {
-    let nx = axis::axis_of(ax, 0, cx, anchors);
-    let ny = axis::axis_of(ay, 0, cy, anchors);
-    scan::build(
-        bx,
-        by,
-        ex,
-        ey,
-        boxes,
-        &ax[..nx],
-        &ay[..ny],
-        cx,
-        cy,
-        dirs,
-        own,
-        explicit,
-        anchors,
-        xs,
-        ys,
-        links,
-        marks,
-    )
+    let nx = axis::axis_of(ax, 0, anchors, 0, a);
+    let ny = axis::axis_of(ay, 0, anchors, fixed::ANCHOR_Y, a);
+    scan::build(boxes, b, &ax[..nx], &ay[..ny], anchors, explicit, a, nodes)
 }
 
 // The graph of the boxes and anchors, pruned or not: how many nodes it has, or more than NODES where it would have more before pruning.
 pub fn make(
-    bx: &[i32],
-    by: &[i32],
-    ex: &[i32],
-    ey: &[i32],
-    boxes: usize,
-    cx: &[i32],
-    cy: &[i32],
-    dirs: &[u32],
-    own: &[u32],
+    boxes: &[i32],
+    b: usize,
+    anchors: &[i32],
     explicit: usize,
-    anchors: usize,
+    a: usize,
     ax: &mut [i32],
     ay: &mut [i32],
-    xs: &mut [i32],
-    ys: &mut [i32],
-    links: &mut [u32],
-    marks: &mut [u32],
+    nodes: &mut [i32],
     pruned: bool,
 ) -> usize
-    requires { ⌜ Held boxes (now bx) (now by) (now ex) (now ey) ⌝ }
-    requires { ⌜ Anchored (now cx) (now cy) (now dirs) (now own) anchors ⌝ }
-    requires { ⌜ Roomy (now xs) (now ys) (now links) (now marks) ⌝ }
-    requires { ⌜ (anchors ≤ length (now ax)) × (anchors ≤ length (now ay)) ⌝ }
-    ensures { λ r. ⌜ Made r (graph r (now (xs .exit)) (now (ys .exit)) (now (links .exit)) (now (marks .exit))) (whole (boxes-of (now (bx .entry)) (now (by .entry)) (now (ex .entry)) (now (ey .entry)) boxes) (anchors-of (now (cx .entry)) (now (cy .entry)) (now (dirs .entry)) (now (own .entry)) explicit anchors)) (made (boxes-of (now (bx .entry)) (now (by .entry)) (now (ex .entry)) (now (ey .entry)) boxes) (anchors-of (now (cx .entry)) (now (cy .entry)) (now (dirs .entry)) (now (own .entry)) explicit anchors) pruned) ⌝ }
+    requires { ⌜ (b ≤ BOXES) × (PADDED-WORDS ≤ length (now boxes)) ⌝ }
+    requires { ⌜ (a ≤ COORDS) × (ANCHOR-WORDS ≤ length (now anchors)) ⌝ }
+    requires { ⌜ GRAPH-WORDS ≤ length (now nodes) ⌝ }
+    requires { ⌜ (a ≤ length (now ax)) × (a ≤ length (now ay)) ⌝ }
+    ensures { λ r. ⌜ Made r (graphOut r nodes) (whole (boxes-of (old boxes) b) (anchors-of (old anchors) explicit a)) (made (boxes-of (old boxes) b) (anchors-of (old anchors) explicit a) pruned) ⌝ }
 {
-    let n = whole(
-        bx,
-        by,
-        ex,
-        ey,
-        boxes,
-        cx,
-        cy,
-        dirs,
-        own,
-        explicit,
-        anchors,
-        ax,
-        ay,
-        xs,
-        ys,
-        links,
-        marks,
-    );
+    let n = whole(boxes, b, anchors, explicit, a, ax, ay, nodes);
     if nodes::NODES < n {
         return n;
     }
     if pruned {
-        return prune::remove_redundant_nodes(xs, ys, links, marks, n);
+        return prune::remove_redundant_nodes(nodes, n);
     }
     n
 }

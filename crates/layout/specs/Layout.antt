@@ -3,11 +3,13 @@ use mathlib.Core.Bool.{Bool, cond}
 use mathlib.Core.List.{List}
 use Prim.Native.Nat.{ℕ, zero, suc, _+_, _-_, _*_, _≤_}
 use lib.ListN.{getD, set, replicate}
+use lib.IntN.{ℤ}
+use Rattle.fixed.specs.Seen.{Lent, old, new}
 use Rattle.fixed.specs.Up.{BIAS}
 use Rattle.nodes.specs.Graph.{Graph}
 use Rattle.anchors.specs.Records.{NET}
 use Rattle.vertex.specs.Pages.{VERTICES}
-use Rattle.wire.specs.Wires.{Vertices, vertices}
+use Rattle.wire.specs.Wires.{Vertices, vertices, verticesIn, verticesOut}
 use Rattle.net.specs.Points.{pointsX, pointsY}
 use Rattle.net.specs.Nets.{Net, connectNet}
 use Rattle.layout.specs.Separated.{separated}
@@ -61,3 +63,10 @@ drawn apart P = cond apart (parted P) P
 pub record Fit (n j : ℕ) : Type 0 where
   pub most : n ≤ VERTICES
   pub half : 2 * j ≤ n
+
+-- what a clause sees of the lent lists of a page
+abbrev pub pageIn : Lent (List ℕ) → Lent (List ℤ) → Lent (List ℤ) → Lent (List ℕ) → ℕ → Lent (List ℕ) → ℕ → Page
+pageIn nets x y letters n joins j = page (old nets) (verticesIn x y letters n) (old joins) j
+
+abbrev pub pageOut : Lent (List ℕ) → Lent (List ℤ) → Lent (List ℤ) → Lent (List ℕ) → ℕ → Lent (List ℕ) → ℕ → Page
+pageOut nets x y letters n joins j = page (new nets) (verticesOut x y letters n) (new joins) j

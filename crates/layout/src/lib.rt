@@ -2,23 +2,27 @@
 ghost use mathlib.Core.Path.{_≡_};
 ghost use Prim.Native.Nat.{_+_, _-_, _*_, _<_, _≤_};
 ghost use lib.ListN.{length, take};
+ghost use Rattle.fixed.specs.Seen.{old, new};
 ghost use Rattle.fixed.specs.Up.{ups};
-ghost use Rattle.wire.specs.Wires.{vertices};
+ghost use Rattle.wire.specs.Wires.{vertices, verticesIn};
 ghost use Rattle.layout.specs.Separated.{separated};
 ghost use Rattle.page_laws.specs.Separated.{Separable};
-ghost use Rattle.nodes.specs.Lent.{graph};
+ghost use Rattle.nodes.specs.Columns.{GRAPH-WORDS, graph, graphIn};
 ghost use Rattle.astar.specs.Reached.{Ready};
-ghost use Rattle.layout.specs.Layout.{NET-ROW, putNet, page, blank, netOf, withNet, netsTo, drawn, Fit};
+ghost use Rattle.layout.specs.Layout.{NET-ROW, putNet, blank, netOf, withNet, netsTo, drawn, Fit, pageIn, pageOut};
 ghost use Rattle.fixup.specs.Moves.{LOWEST, HIGHEST};
 ghost use Rattle.page_laws.specs.Connected.{Ground};
 ghost use Rattle.net.specs.Nets.{END-WORDS};
-ghost use Rattle.net.specs.Lent.{Space};
+ghost use Rattle.net.specs.Lent.{Searching};
+
+// The words of a net's ends.
+const END_WORDS: usize = 16384;
 
 // Separates the wires of the first n vertices, with j junctions.
 fn separate(x: &mut [i32], y: &mut [i32], kinds: &[u8], n: usize, joins: &[u32], j: usize)
     requires { ⌜ (n ≤ length (now x)) × (n ≤ length (now y)) × (n ≤ length (now kinds)) × (3 * j ≤ length (now joins)) ⌝ }
     requires { ⌜ Separable (vertices (ups (now x)) (ups (now y)) (now kinds) n) (take (3 * j) (now joins)) ⌝ }
-    ensures { λ _. ⌜ vertices (ups (now (x .exit))) (ups (now (y .exit))) (now (kinds .entry)) n ≡ separated (now (joins .entry)) j (vertices (ups (now (x .entry))) (ups (now (y .entry))) (now (kinds .entry)) n) ⌝ }
+    ensures { λ _. ⌜ vertices (ups (new x)) (ups (new y)) (old kinds) n ≡ separated (old joins) j (verticesIn x y kinds n) ⌝ }
 {
     fixup::separate_wires(&mut x[..n], &mut y[..n], kinds, &joins[..3 * j]);
 }
@@ -26,7 +30,7 @@ fn separate(x: &mut [i32], y: &mut [i32], kinds: &[u8], n: usize, joins: &[u32],
 // Writes the row of the net i.
 fn put_net(nets: &mut [u32], i: usize, number: u32, first: u32, count: u32, begin: u32, joins: u32)
     requires { ⌜ (i < 64) × (i * NET-ROW + 5 ≤ length (now nets)) ⌝ }
-    ensures { λ _. ⌜ now (nets .exit) ≡ putNet (now (nets .entry)) i number first count begin joins ⌝ }
+    ensures { λ _. ⌜ new nets ≡ putNet (old nets) i number first count begin joins ⌝ }
 {
     nets[i * 5] = number;
     nets[i * 5 + 1] = first;
@@ -37,7 +41,7 @@ fn put_net(nets: &mut [u32], i: usize, number: u32, first: u32, count: u32, begi
 
 // Zeros everywhere: a page with no net.
 pub fn clear(nets: &mut [u32], x: &mut [i32], y: &mut [i32], letters: &mut [u8], joins: &mut [u32])
-    ensures { λ _. ⌜ page (now (nets .exit)) (vertices (ups (now (x .exit))) (ups (now (y .exit))) (now (letters .exit)) 0) (now (joins .exit)) 0 ≡ blank (length (now (nets .entry))) (length (now (x .entry))) (length (now (y .entry))) (length (now (letters .entry))) (length (now (joins .entry))) ⌝ }
+    ensures { λ _. ⌜ pageOut nets x y letters 0 joins 0 ≡ blank (length (old nets)) (length (old x)) (length (old y)) (length (old letters)) (length (old joins)) ⌝ }
 {
     zeros::zero_words(nets, 0);
     net::refuse(0, x, y, letters, 0, joins, 0);
@@ -63,17 +67,14 @@ fn more(after: usize, before: usize) -> u32
 // Writes the row of the net i: the page has m vertices in place of n, and k junctions in place of j.
 fn record_net(nets: &mut [u32], i: usize, number: u32, n: usize, m: usize, j: usize, k: usize)
     requires { ⌜ (i < 64) × (i * NET-ROW + 5 ≤ length (now nets)) × (n ≤ 512) × (m ≤ 512) × (j ≤ 256) × (k ≤ 256) ⌝ }
-    ensures { λ _. ⌜ now (nets .exit) ≡ putNet (now (nets .entry)) i number n (m - n) j (k - j) ⌝ }
+    ensures { λ _. ⌜ new nets ≡ putNet (old nets) i number n (m - n) j (k - j) ⌝ }
 {
     put_net(nets, i, number, n as u32, more(m, n), j as u32, more(k, j));
 }
 
-// Routes the net i, whose id is given, among ne ends, and writes its row.
+// Routes the net i, whose id is given, among ne ends, on a page that has so many vertices and junctions, and writes its row.
 fn lay_net(
-    xs: &[i32],
-    ys: &[i32],
-    links: &[u32],
-    marks: &[u32],
+    nodes: &[i32],
     n: usize,
     ends: &[u32],
     ne: usize,
@@ -83,56 +84,46 @@ fn lay_net(
     x: &mut [i32],
     y: &mut [i32],
     letters: &mut [u8],
-    count: usize,
     joins: &mut [u32],
-    j: usize,
+    laid: Counts,
     rows: &mut [u32],
-    lx: &mut [i32],
-    ly: &mut [i32],
-    kinds: &mut [u8],
-    ways: &mut [u8],
+    cells: &mut [u64],
+    tree: &mut [u64],
+    list: &mut [u32],
 ) -> Counts
-    requires { ⌜ (0 < n → Ready (graph n (now xs) (now ys) (now links) (now marks))) ⌝ }
+    requires { ⌜ Searching n (now nodes) (now cells) (now tree) (now list) ⌝ }
     requires { ⌜ (ne ≤ 256) × (ne * 4 ≤ length (now ends)) × (i < 64) × (320 ≤ length (now nets)) ⌝ }
-    requires { ⌜ (512 ≤ length (now x)) × (512 ≤ length (now y)) × (512 ≤ length (now letters)) × (768 ≤ length (now joins)) × (count ≤ 512) × (2 * j ≤ count) ⌝ }
+    requires { ⌜ (512 ≤ length (now x)) × (512 ≤ length (now y)) × (512 ≤ length (now letters)) × (768 ≤ length (now joins)) × (laid .n ≤ 512) × (2 * laid .j ≤ laid .n) ⌝ }
     requires { ⌜ length (now rows) ≡ END-WORDS ⌝ }
-    requires { ⌜ Space (length (now lx)) (length (now ly)) (length (now kinds)) (length (now ways)) ⌝ }
-    ensures { λ r. ⌜ (page (now (nets .exit)) (vertices (ups (now (x .exit))) (ups (now (y .exit))) (now (letters .exit)) (r .n)) (now (joins .exit)) (r .j)) ≡ withNet i (netOf (graph n (now (xs .entry)) (now (ys .entry)) (now (links .entry)) (now (marks .entry))) (now (ends .entry)) ne id (page (now (nets .entry)) (vertices (ups (now (x .entry))) (ups (now (y .entry))) (now (letters .entry)) count) (now (joins .entry)) j)) (page (now (nets .entry)) (vertices (ups (now (x .entry))) (ups (now (y .entry))) (now (letters .entry)) count) (now (joins .entry)) j) ⌝ }
+    ensures { λ r. ⌜ (pageOut nets x y letters (r .n) joins (r .j)) ≡ withNet i (netOf (graphIn n nodes) (old ends) ne id (pageIn nets x y letters (laid .n) joins (laid .j))) (pageIn nets x y letters (laid .n) joins (laid .j)) ⌝ }
     ensures { λ r. ⌜ Fit (r .n) (r .j) ⌝ }
 {
     let mut px: [u32; 256] = [0; 256];
     let mut py: [u32; 256] = [0; 256];
     let k = net::take_points(ends, ne, id, &mut px, &mut py);
     let r = connect::connect_net(
-        xs,
-        ys,
-        links,
-        marks,
+        nodes,
         n,
         &px[..k],
         &py[..k],
         x,
         y,
         letters,
-        count,
+        laid.n,
         joins,
-        j,
+        laid.j,
         rows,
-        lx,
-        ly,
-        kinds,
-        ways,
+        cells,
+        tree,
+        list,
     );
-    record_net(nets, i, r.number, count, r.n, j, r.j);
+    record_net(nets, i, r.number, laid.n, r.n, laid.j, r.j);
     Counts { n: r.n, j: r.j }
 }
 
-// Routes all nets, on a page that has none. Rows, lx, ly, kinds and ways are scratch.
+// Routes all nets, on a page that has none. Rows, cells, tree and list are scratch.
 fn lay_each(
-    xs: &[i32],
-    ys: &[i32],
-    links: &[u32],
-    marks: &[u32],
+    nodes: &[i32],
     n: usize,
     ids: &[u32],
     nn: usize,
@@ -144,28 +135,22 @@ fn lay_each(
     letters: &mut [u8],
     joins: &mut [u32],
     rows: &mut [u32],
-    lx: &mut [i32],
-    ly: &mut [i32],
-    kinds: &mut [u8],
-    ways: &mut [u8],
+    cells: &mut [u64],
+    tree: &mut [u64],
+    list: &mut [u32],
 ) -> Counts
-    requires { ⌜ (0 < n → Ready (graph n (now xs) (now ys) (now links) (now marks))) ⌝ }
+    requires { ⌜ Searching n (now nodes) (now cells) (now tree) (now list) ⌝ }
     requires { ⌜ (nn ≤ 64) × (nn ≤ length (now ids)) × (ne ≤ 256) × (ne * 4 ≤ length (now ends)) × (320 ≤ length (now nets)) ⌝ }
     requires { ⌜ (512 ≤ length (now x)) × (512 ≤ length (now y)) × (512 ≤ length (now letters)) × (768 ≤ length (now joins)) ⌝ }
     requires { ⌜ length (now rows) ≡ END-WORDS ⌝ }
-    requires { ⌜ Space (length (now lx)) (length (now ly)) (length (now kinds)) (length (now ways)) ⌝ }
-    ensures { λ r. ⌜ (page (now (nets .exit)) (vertices (ups (now (x .exit))) (ups (now (y .exit))) (now (letters .exit)) (r .n)) (now (joins .exit)) (r .j)) ≡ netsTo (graph n (now (xs .entry)) (now (ys .entry)) (now (links .entry)) (now (marks .entry))) (now (ids .entry)) (now (ends .entry)) ne nn (page (now (nets .entry)) (vertices (ups (now (x .entry))) (ups (now (y .entry))) (now (letters .entry)) 0) (now (joins .entry)) 0) ⌝ }
+    ensures { λ r. ⌜ (pageOut nets x y letters (r .n) joins (r .j)) ≡ netsTo (graphIn n nodes) (old ids) (old ends) ne nn (pageIn nets x y letters 0 joins 0) ⌝ }
     ensures { λ r. ⌜ Fit (r .n) (r .j) ⌝ }
 {
-    let mut count: usize = 0;
-    let mut j: usize = 0;
+    let mut laid = Counts { n: 0, j: 0 };
     let mut i: usize = 0;
     while i < nn {
-        let c = lay_net(
-            xs,
-            ys,
-            links,
-            marks,
+        laid = lay_net(
+            nodes,
             n,
             ends,
             ne,
@@ -175,28 +160,21 @@ fn lay_each(
             x,
             y,
             letters,
-            count,
             joins,
-            j,
+            laid,
             rows,
-            lx,
-            ly,
-            kinds,
-            ways,
+            cells,
+            tree,
+            list,
         );
-        count = c.n;
-        j = c.j;
         i += 1;
     }
-    Counts { n: count, j: j }
+    laid
 }
 
 // The same, with the scratch made here: once a page, since no net leaves anything in it that another reads.
 fn lay_nets(
-    xs: &[i32],
-    ys: &[i32],
-    links: &[u32],
-    marks: &[u32],
+    nodes: &[i32],
     n: usize,
     ids: &[u32],
     nn: usize,
@@ -208,22 +186,39 @@ fn lay_nets(
     letters: &mut [u8],
     joins: &mut [u32],
 ) -> Counts
-    requires { ⌜ (0 < n → Ready (graph n (now xs) (now ys) (now links) (now marks))) ⌝ }
+    requires { ⌜ (0 < n → Ready (graph n (now nodes))) × (GRAPH-WORDS ≤ length (now nodes)) ⌝ }
     requires { ⌜ (nn ≤ 64) × (nn ≤ length (now ids)) × (ne ≤ 256) × (ne * 4 ≤ length (now ends)) × (320 ≤ length (now nets)) ⌝ }
     requires { ⌜ (512 ≤ length (now x)) × (512 ≤ length (now y)) × (512 ≤ length (now letters)) × (768 ≤ length (now joins)) ⌝ }
-    ensures { λ r. ⌜ (page (now (nets .exit)) (vertices (ups (now (x .exit))) (ups (now (y .exit))) (now (letters .exit)) (r .n)) (now (joins .exit)) (r .j)) ≡ netsTo (graph n (now (xs .entry)) (now (ys .entry)) (now (links .entry)) (now (marks .entry))) (now (ids .entry)) (now (ends .entry)) ne nn (page (now (nets .entry)) (vertices (ups (now (x .entry))) (ups (now (y .entry))) (now (letters .entry)) 0) (now (joins .entry)) 0) ⌝ }
+    ensures { λ r. ⌜ (pageOut nets x y letters (r .n) joins (r .j)) ≡ netsTo (graphIn n nodes) (old ids) (old ends) ne nn (pageIn nets x y letters 0 joins 0) ⌝ }
     ensures { λ r. ⌜ Fit (r .n) (r .j) ⌝ }
 {
-    let mut rows: [u32; 16384] = [0; 16384];
-    let mut lx: [i32; 4096] = [0; 4096];
-    let mut ly: [i32; 4096] = [0; 4096];
-    let mut kinds: [u8; 4096] = [0; 4096];
-    let mut ways: [u8; 4096] = [0; 4096];
+    let mut rows: [u32; END_WORDS] = [0; END_WORDS];
+    let mut list: [u32; nodes::NODES] = [0; nodes::NODES];
+    if n <= path_finding::SMALL {
+        let mut cells: [u64; path_finding::SMALL_CELLS] = [0; path_finding::SMALL_CELLS];
+        let mut tree: [u64; path_finding::SMALL_TREE] = [0; path_finding::SMALL_TREE];
+        return lay_each(
+            nodes,
+            n,
+            ids,
+            nn,
+            ends,
+            ne,
+            nets,
+            x,
+            y,
+            letters,
+            joins,
+            &mut rows,
+            &mut cells,
+            &mut tree,
+            &mut list,
+        );
+    }
+    let mut cells: [u64; path_finding::CELLS] = [0; path_finding::CELLS];
+    let mut tree: [u64; path_finding::TREE] = [0; path_finding::TREE];
     lay_each(
-        xs,
-        ys,
-        links,
-        marks,
+        nodes,
         n,
         ids,
         nn,
@@ -235,19 +230,15 @@ fn lay_nets(
         letters,
         joins,
         &mut rows,
-        &mut lx,
-        &mut ly,
-        &mut kinds,
-        &mut ways,
+        &mut cells,
+        &mut tree,
+        &mut list,
     )
 }
 
 // Lays out all nets of a page on its graph, and separates the wires if asked.
 pub fn lay_out(
-    xs: &[i32],
-    ys: &[i32],
-    links: &[u32],
-    marks: &[u32],
+    nodes: &[i32],
     n: usize,
     ids: &[u32],
     nn: usize,
@@ -260,28 +251,13 @@ pub fn lay_out(
     letters: &mut [u8],
     joins: &mut [u32],
 ) -> Counts
-    requires { ⌜ Ground LOWEST HIGHEST (graph n (now xs) (now ys) (now links) (now marks)) ⌝ }
+    requires { ⌜ Ground LOWEST HIGHEST (graph n (now nodes)) × (GRAPH-WORDS ≤ length (now nodes)) ⌝ }
     requires { ⌜ (nn ≤ 64) × (nn ≤ length (now ids)) × (ne ≤ 256) × (ne * 4 ≤ length (now ends)) × (320 ≤ length (now nets)) ⌝ }
     requires { ⌜ (512 ≤ length (now x)) × (512 ≤ length (now y)) × (512 ≤ length (now letters)) × (768 ≤ length (now joins)) ⌝ }
-    ensures { λ r. ⌜ (page (now (nets .exit)) (vertices (ups (now (x .exit))) (ups (now (y .exit))) (now (letters .exit)) (r .n)) (now (joins .exit)) (r .j)) ≡ drawn apart (netsTo (graph n (now (xs .entry)) (now (ys .entry)) (now (links .entry)) (now (marks .entry))) (now (ids .entry)) (now (ends .entry)) ne nn (blank (length (now (nets .entry))) (length (now (x .entry))) (length (now (y .entry))) (length (now (letters .entry))) (length (now (joins .entry))))) ⌝ }
+    ensures { λ r. ⌜ (pageOut nets x y letters (r .n) joins (r .j)) ≡ drawn apart (netsTo (graphIn n nodes) (old ids) (old ends) ne nn (blank (length (old nets)) (length (old x)) (length (old y)) (length (old letters)) (length (old joins)))) ⌝ }
 {
     clear(nets, x, y, letters, joins);
-    let c = lay_nets(
-        xs,
-        ys,
-        links,
-        marks,
-        n,
-        ids,
-        nn,
-        ends,
-        ne,
-        nets,
-        x,
-        y,
-        letters,
-        joins,
-    );
+    let c = lay_nets(nodes, n, ids, nn, ends, ne, nets, x, y, letters, joins);
     if !apart {
         return c;
     }

@@ -35,11 +35,11 @@ some-ends L sx sy ex ey ahead isRoot J W = by (eqb (L .count) 0) refl
     some : (k : ℕ) → (k ≡ 0 → ⊥) → 0 < k
     some k h = omega arith
 
-    by : (b : Bool) → eqb (L .count) 0 ≡ b → cond b (cond (fits (W .page .n) (fallbackVertices sx sy ex ey ahead) (W .net .m) 2) (tried 0 (pushFallback sx sy ex ey ahead J W)) (tried 15 W)) (cond (eqb (L .count) 1) (tried 14 W) (cond (fits (W .page .n) (lineVertices (L .kinds) (L .ways) (L .count)) (W .net .m) (lineEnds (L .count))) (tried 0 (pushVertices L isRoot J W)) (tried 15 W))) .number ≡ 0
-        → 0 < cond b (cond (fits (W .page .n) (fallbackVertices sx sy ex ey ahead) (W .net .m) 2) (tried 0 (pushFallback sx sy ex ey ahead J W)) (tried 15 W)) (cond (eqb (L .count) 1) (tried 14 W) (cond (fits (W .page .n) (lineVertices (L .kinds) (L .ways) (L .count)) (W .net .m) (lineEnds (L .count))) (tried 0 (pushVertices L isRoot J W)) (tried 15 W))) .wires .net .m
+    by : (b : Bool) → eqb (L .count) 0 ≡ b → cond b (cond (fits (W .page .n) (fallbackVertices sx sy ex ey ahead) (W .net .m) 2) (tried 0 (pushFallback sx sy ex ey ahead J W)) (tried 15 W)) (cond (eqb (L .count) 1) (tried 14 W) (cond (fits (W .page .n) (lineVertices L) (W .net .m) (lineEnds L)) (tried 0 (pushVertices L isRoot J W)) (tried 15 W))) .number ≡ 0
+        → 0 < cond b (cond (fits (W .page .n) (fallbackVertices sx sy ex ey ahead) (W .net .m) 2) (tried 0 (pushFallback sx sy ex ey ahead J W)) (tried 15 W)) (cond (eqb (L .count) 1) (tried 14 W) (cond (fits (W .page .n) (lineVertices L) (W .net .m) (lineEnds L)) (tried 0 (pushVertices L isRoot J W)) (tried 15 W))) .wires .net .m
     by true e = fit (fits (W .page .n) (fallbackVertices sx sy ex ey ahead) (W .net .m) 2) (pushFallback sx sy ex ey ahead J W) (omega (arith, fallback-m sx sy ex ey ahead J W))
     by false e =
-        one (eqb (L .count) 1) (cond (fits (W .page .n) (lineVertices (L .kinds) (L .ways) (L .count)) (W .net .m) (lineEnds (L .count))) (tried 0 (pushVertices L isRoot J W)) (tried 15 W)) (fit (fits (W .page .n) (lineVertices (L .kinds) (L .ways) (L .count)) (W .net .m) (lineEnds (L .count))) (pushVertices L isRoot J W) (omega (arith, line-m L isRoot J W (some (L .count) (eqb-false _ _ e)))))
+        one (eqb (L .count) 1) (cond (fits (W .page .n) (lineVertices L) (W .net .m) (lineEnds L)) (tried 0 (pushVertices L isRoot J W)) (tried 15 W)) (fit (fits (W .page .n) (lineVertices L) (W .net .m) (lineEnds L)) (pushVertices L isRoot J W) (omega (arith, line-m L isRoot J W (some (L .count) (eqb-false _ _ e)))))
 
 abbrev pub Bounded : Branched → Type 0
 Bounded S = Bounds (S .wires .page .n) (S .wires .net .m) (S .j)

@@ -1,46 +1,30 @@
--- A line as a search writes it, cut to its nodes, is the line that the wires take.
-use mathlib.Core.Path.{_≡_, refl, sym, ap, _∙_, subst}
+-- The path that a search leaves is the line that the wires take.
+use mathlib.Core.Path.{_≡_, refl, sym, ap, _∙_}
 use mathlib.Core.Bool.{Bool, true, false, cond}
-use mathlib.Core.List.{List, [], _∷_, _++_}
-use Prim.Native.Nat.{ℕ, zero, suc, _+_, _*_, _<_, _≤_, zero-le}
+use mathlib.Core.List.{List, [], _∷_}
+use Prim.Native.Nat.{ℕ, _+_, _*_, _<_, _≤_, zero-le}
 use native.Mathlib.Omega.{arith}
-use native.Mathlib.Decide.{decLt}
 use lib.Dec.{ltb}
 use lib.IntN.{ℤ}
-use lib.ListN.{length, take, length-take, set}
-use lib.Seq.{take-all, take-append-le, length-take-le}
+use lib.ListN.{length, take, set}
+use lib.Seq.{length-take-le}
 use borrow.Author.Tests.{ltb-true}
 use Rattle.fixed.specs.Up.{ups}
 use Rattle.fixed.proofs.Lists.{length-ups, ups-take}
-use Rattle.nodes.specs.Graph.{Graph, NODES}
-use Rattle.nodes.specs.Lent.{graph}
+use Rattle.nodes.specs.Graph.{Graph}
+use Rattle.nodes.specs.Columns.{GRAPH-WORDS, graph}
 use Rattle.astar.specs.Reached.{Ready}
-use Rattle.path_finding.specs.Line.{line as nodes-of, table, place-at, kind-at, direction-at, Written}
+use Rattle.path_finding.specs.Line.{line as nodes-of, table}
+use Rattle.path_finding.specs.Lent.{Room}
 use Rattle.path_finding.specs.Places.{start-of, ends-of, ends-known, line-between}
-use Rattle.path_finding.proofs.Lines.{table-length}
+use Rattle.path_finding.proofs.Between.{few-lent, between-below}
 use Rattle.path_finding.proofs.Theorems.{right}
-use Rattle.wire.specs.Lines.{Line, line}
-use Rattle.search.specs.Searched.{Searched}
+use Rattle.wire.specs.Lines.{Line, lineOf, PathOn}
 use Rattle.vertex.specs.declared.Junction.{Junction}
 use Rattle.wire.specs.Wires.{ends as endsOf, Wires}
-use Rattle.routing.specs.Branches.{Tried, Columns, routeWire, routeBranch, joinBranch}
-use Rattle.net.specs.Lent.{Space}
-use Rattle.net.specs.Nets.{lineOf, foundLine, endWord, branchLine}
-
-pub take-table : (f : ℕ → ℕ) (m n : ℕ) → m ≤ n → take m (table f n) ≡ table f m
-unfolding table
-take-table f zero zero h = refl
-take-table f (suc m) zero h = absurd (omega arith)
-take-table f m (suc n) h = by (decLt m (suc n)) (λ l. take-table f m n l)
-  where
-    by : Dec (m < suc n) → (m ≤ n → take m (table f n) ≡ table f m) → take m (table f n ++ (f n ∷ [])) ≡ table f m
-    by (yes l) t = take-append-le m (table f n) (f n ∷ []) (omega (arith, table-length f n)) ∙ t (omega arith)
-    by (no l) t =
-        let e : m ≡ suc n = omega arith in
-        rw e (take-all (suc n) (table f (suc n)) (omega (arith, table-length f (suc n))))
-
-cut : (f : ℕ → ℕ) (l : List ℕ) (m : ℕ) → l ≡ table f (length l) → m ≤ length l → take m l ≡ table f m
-cut f l m e h = ap (take m) e ∙ take-table f m (length l) h
+use Rattle.routing.specs.Branches.{Tried, routeWire, routeBranch, joinBranch}
+use Rattle.net.specs.Lent.{Searching}
+use Rattle.net.specs.Nets.{foundLine, endWord, branchPath, branchLine}
 
 -- a line has at most as many nodes as the graph
 pub few : (G : Graph) → (0 < G .count → Ready G) → (x y : ℕ) (exs eys : List ℕ) → length (line-between G x y exs eys) ≤ G .count
@@ -58,14 +42,6 @@ few G w x y exs eys = by (ltb (start-of G x y) (G .count)) refl
         known (ends-known G exs eys) _ (right G (w (omega arith)) (ends-of G exs eys) (start-of G x y) h .few)
     by false e = zero-le
 
--- what a search wrote
-pub found-is : (G : Graph) (x y : ℕ) (exs eys : List ℕ) (r : ℕ) (lx ly kinds ways : List ℕ) → r ≡ length (line-between G x y exs eys)
-    → Written (G .xs) (G .ys) (G .links) (line-between G x y exs eys) lx ly kinds ways → r ≤ length lx → r ≤ length ly → r ≤ length kinds → r ≤ length ways
-    → line (take r lx) (take r ly) (take r kinds) (take r ways) r ≡ foundLine G x y exs eys
-unfolding foundLine lineOf
-found-is G x y exs eys r lx ly kinds ways e W a b c d =
-    rw (cut _ lx r (W .x-is) a, cut _ ly r (W .y-is) b, cut _ kinds r (W .kind-is) c, cut _ ways r (W .direction-is) d, e)
-
 -- ---- the ends that are lent
 
 -- one end: its place is put into a list of one entry
@@ -81,19 +57,6 @@ one-place l l′ v h e = e ∙ by (ups l) (length-ups l ∙ h)
 pub all-ends : (w : ℕ) (E : List ℕ) (m : ℕ) (l : List ℤ) → take m (ups l) ≡ table (endWord w E) m → ups (take m l) ≡ table (endWord w E) m
 all-ends w E m l e = ups-take m l ∙ e
 
-pub root-found : (G : Graph) (x y tx ty : ℕ) (ex ey : List ℕ) (L : Line) → ex ≡ tx ∷ [] → ey ≡ ty ∷ [] → L ≡ foundLine G x y ex ey → L ≡ foundLine G x y (tx ∷ []) (ty ∷ [])
-root-found G x y tx ty ex ey L a b e = rw (← a, ← b) e
-
-pub branch-found : (G : Graph) (x y : ℕ) (E : List ℕ) (m : ℕ) (ex ey : List ℕ) (L : Line) → ex ≡ table (endWord 0 E) m → ey ≡ table (endWord 1 E) m → L ≡ foundLine G x y ex ey
-    → L ≡ branchLine G x y (endsOf E m)
-unfolding branchLine
-branch-found G x y E m ex ey L a b e = rw (← a, ← b) e
-
--- a line lent by its parts
-pub lent-line : (r : ℕ) (lx ly : List ℤ) (kinds ways : List ℕ) (L : Line) → line (take r (ups lx)) (take r (ups ly)) (take r kinds) (take r ways) r ≡ L
-    → line (ups (take r lx)) (ups (take r ly)) (take r kinds) (take r ways) r ≡ L
-lent-line r lx ly kinds ways L e = rw (ups-take r lx, ups-take r ly) e
-
 -- the first k of two lists, lent as ends
 pub parts-ended : (k : ℕ) (l m : List ℤ) → k ≤ length l → k ≤ length m → k ≤ 4096 → (length (take k m) ≡ length (take k l)) × (length (take k l) ≤ 4096)
 parts-ended k l m a b h =
@@ -101,41 +64,33 @@ parts-ended k l m a b h =
     let q = length-take-le k m b in
     (q ∙ sym p, omega arith)
 
--- ---- what is lent
+-- ---- the path that a search left at the end of a list
 
--- no more nodes than there may be
-pub count-small : (G : Graph) → (0 < G .count → Ready G) → G .count ≤ NODES
-count-small G w = by (decLt 0 (G .count))
-  where
-    by : Dec (0 < G .count) → G .count ≤ NODES
-    by (yes h) = w h .wf .few
-    by (no h) = omega arith
+-- to one end, and to the ends of the net
+pub root-path : (G : Graph) (x y tx ty : ℕ) (ex ey p : List ℕ) → ex ≡ tx ∷ [] → ey ≡ ty ∷ [] → p ≡ line-between G x y ex ey → p ≡ line-between G x y (tx ∷ []) (ty ∷ [])
+root-path G x y tx ty ex ey p a b e = rw (← a, ← b) e
 
--- the line of a search, in the first entries of columns: as many as the graph has nodes
-pub found-by : (G : Graph) → (0 < G .count → Ready G) → (x y : ℕ) (exs eys : List ℕ) (num r : ℕ) (lx ly lx′ ly′ : List ℤ) (kinds ways kinds′ ways′ : List ℕ) → Searched G x y exs eys num r (ups lx) (ups ly) kinds ways
-    → length lx ≡ G .count → length ly ≡ G .count → length kinds ≡ G .count → length ways ≡ G .count
-    → (r ≤ 4096) × (line (take r (ups (lx ++ lx′))) (take r (ups (ly ++ ly′))) (take r (kinds ++ kinds′)) (take r (ways ++ ways′)) r ≡ foundLine G x y exs eys)
-found-by G w x y exs eys num r lx ly lx′ ly′ kinds ways kinds′ ways′ S a b c d =
-    let h : r ≤ G .count = rw (S .nodes-is) (few G w x y exs eys) in (
-      omega (arith, count-small G w),
-      rw (← ups-take r (lx ++ lx′), ← ups-take r (ly ++ ly′), take-append-le r lx lx′ (omega arith), take-append-le r ly ly′ (omega arith), take-append-le r kinds kinds′ (omega arith), take-append-le r ways ways′ (omega arith), ups-take r lx, ups-take r ly)
-          (found-is G x y exs eys r (ups lx) (ups ly) kinds ways (S .nodes-is) (S .written) (omega (arith, length-ups lx)) (omega (arith, length-ups ly)) (omega arith) (omega arith)),
-    )
+pub branch-path : (G : Graph) (x y : ℕ) (E : List ℕ) (m : ℕ) (ex ey p : List ℕ) → ex ≡ table (endWord 0 E) m → ey ≡ table (endWord 1 E) m → p ≡ line-between G x y ex ey → p ≡ branchPath G x y (endsOf E m)
+branch-path G x y E m ex ey p a b e = rw (← a, ← b) e
 
--- a line's parts, as wires ask for them
-pub columns-of : (r : ℕ) (lx ly : List ℤ) (kinds ways : List ℕ) → r ≤ 4096 → NODES ≤ length lx → NODES ≤ length ly → NODES ≤ length kinds → NODES ≤ length ways
-    → Columns (length (take r lx)) (length (take r ly)) (length (take r kinds)) (length (take r ways)) r
-columns-of r lx ly kinds ways h a b c d =
-    record { most = h; in-x = omega (arith, length-take r lx); in-y = omega (arith, length-take r ly); in-kinds = omega (arith, length-take r kinds); in-ways = omega (arith, length-take r ways) }
+-- wires can be laid along it
+pub on-path : (n : ℕ) (l : List ℤ) → (0 < n → Ready (graph n l)) → GRAPH-WORDS ≤ length l → (x y : ℕ) (exs eys p : List ℕ) → p ≡ line-between (graph n l) x y exs eys → PathOn n l p
+on-path n l w g x y exs eys p e =
+    record {
+      few = few-lent n l w;
+      room = g;
+      below = rw e (between-below (graph n l) w x y exs eys);
+      most = rw e (omega (arith, few (graph n l) w x y exs eys, few-lent n l w));
+    }
 
-pub graph-held : (n : ℕ) (xs ys : List ℤ) (links marks : List ℕ) → (0 < n → Ready (graph n xs ys links marks)) → (n ≤ length xs) × (n ≤ length ys) × (n ≤ length marks)
-graph-held n xs ys links marks w = by (decLt 0 n)
-  where
-    by : Dec (0 < n) → (n ≤ length xs) × (n ≤ length ys) × (n ≤ length marks)
-    by (yes h) =
-        let g = w h .wf .good in
-        (omega (arith, g .x-long, length-take n (ups xs), length-ups xs), omega (arith, g .y-long, length-take n (ups ys), length-ups ys), omega (arith, g .mark-long, length-take n marks))
-    by (no h) = (omega arith, omega arith, omega arith)
+-- and are those of the line that the definitions have
+pub line-found : (G : Graph) (x y : ℕ) (exs eys p : List ℕ) → p ≡ line-between G x y exs eys → lineOf G p ≡ foundLine G x y exs eys
+unfolding foundLine
+line-found G x y exs eys p e = rw e
+
+pub branch-found : (G : Graph) (x y : ℕ) (E : List ℕ) (m : ℕ) (p : List ℕ) → p ≡ branchPath G x y (endsOf E m) → lineOf G p ≡ branchLine G x y (endsOf E m)
+unfolding branchLine
+branch-found G x y E m p e = line-found G x y _ _ p e
 
 -- ---- wires along the line
 
@@ -149,5 +104,11 @@ module _ (L L′ : Line) (sx sy : ℕ) (a a′ : Bool) (W : Wires) (l : L ≡ L�
   pub branch-joined : (R R′ : List ℕ) (j : ℕ) → R′ ≡ joinBranch L sx sy a W R j → R′ ≡ joinBranch L′ sx sy a′ W R j
   branch-joined R R′ j t = rw (← l, ← e) t
 
-pub space-kept : {lx₁ ly₁ kinds₁ ways₁ lx₂ ly₂ kinds₂ ways₂ : ℕ} → lx₂ ≡ lx₁ → ly₂ ≡ ly₁ → kinds₂ ≡ kinds₁ → ways₂ ≡ ways₁ → Space lx₁ ly₁ kinds₁ ways₁ → Space lx₂ ly₂ kinds₂ ways₂
-space-kept e0 e1 e2 e3 S = rw (e0, e1, e2, e3) S
+-- room for more ends is room for fewer
+pub fewer-ends : {n k m : ℕ} {a b c : List ℕ} → k ≤ m → Room n m a b c → Room n k a b c
+fewer-ends h R = record { cells-room = R .cells-room; tree-room = R .tree-room; list-room = R .list-room; ends-room = omega (arith, R .ends-room) }
+
+-- the scratch has its lengths
+pub searching-kept : {n : ℕ} {l : List ℤ} {a b c a′ b′ c′ : List ℕ} → length a′ ≡ length a → length b′ ≡ length b → length c′ ≡ length c → Searching n l a b c → Searching n l a′ b′ c′
+searching-kept e f g S =
+    record { ready = S .ready; words = S .words; room = record { cells-room = rw e (S .room .cells-room); tree-room = rw f (S .room .tree-room); list-room = rw g (S .room .list-room); ends-room = rw g (S .room .ends-room) } }

@@ -10,7 +10,7 @@ use lib.ListN.{length, getD, set, take, length-take, List·getD-eq-default}
 use lib.Seq.{getD-take}
 use Rattle.fixed.specs.Up.{BIAS, ups}
 use Rattle.nodes.specs.Graph.{seek}
-use Rattle.nodes.specs.Lent.{graph}
+use Rattle.nodes.specs.Columns.{whole, graph}
 use Rattle.nodes.proofs.Nodes.{seek-take}
 use Rattle.zeros.specs.Zeros.{closed}
 use Rattle.path_finding.specs.Line.{table}
@@ -21,17 +21,17 @@ use Rattle.net.specs.Nets.{alongAt, along, endWord, net, refused}
 
 -- ---- the direction of a place's node
 
-module _ (xs ys : List ℤ) (links marks : List ℕ) (n x y s : ℕ) (e : s ≡ seek (ups xs) (ups ys) n x y) where
-  same : seek (take n (ups xs)) (take n (ups ys)) n x y ≡ s
-  same = seek-take (ups xs) (ups ys) n x y ∙ sym e
+module _ (l : List ℤ) (n x y s : ℕ) (e : s ≡ seek (whole l .xs) (whole l .ys) n x y) where
+  same : seek (take n (whole l .xs)) (take n (whole l .ys)) n x y ≡ s
+  same = seek-take (whole l .xs) (whole l .ys) n x y ∙ sym e
 
-  pub along-in : (r : Bool) → s < n → r ≡ alongAt marks s → r ≡ along (graph n xs ys links marks) x y
+  pub along-in : (r : Bool) → s < n → r ≡ alongAt (whole l .marks) s → r ≡ along (graph n l) x y
   unfolding along alongAt
-  along-in r h q = rw (same, getD-take n marks s 0 h) q
+  along-in r h q = rw (same, getD-take n (whole l .marks) s 0 h) q
 
-  pub along-out : n ≤ s → false ≡ along (graph n xs ys links marks) x y
+  pub along-out : n ≤ s → false ≡ along (graph n l) x y
   unfolding along alongAt
-  along-out h = rw (same, List·getD-eq-default (take n marks) 0 {n = s} (omega (arith, length-take n marks)))
+  along-out h = rw (same, List·getD-eq-default (take n (whole l .marks)) 0 {n = s} (omega (arith, length-take n (whole l .marks))))
 
 -- ---- endpoints
 

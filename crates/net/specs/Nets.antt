@@ -5,23 +5,20 @@ use mathlib.Core.List.{List, [], _∷_}
 use Prim.Native.Nat.{ℕ, zero, suc, _+_, _*_, _/_, _%_}
 use lib.Dec.{eqb, ltb}
 use lib.ListN.{length, getD, replicate}
+use lib.IntN.{ℤ}
+use Rattle.fixed.specs.Seen.{Lent, old, new}
 use Rattle.fixed.specs.Up.{BIAS}
 use Rattle.nodes.specs.Graph.{Graph, seek}
-use Rattle.path_finding.specs.Line.{table, place-at, kind-at, direction-at}
+use Rattle.path_finding.specs.Line.{table}
 use Rattle.path_finding.specs.Places.{known, line-between}
 use Rattle.zeros.specs.Zeros.{closed}
 use Rattle.vertex.specs.declared.Junction.the-variants.{None}
-use Rattle.wire.specs.Lines.{Line, line}
-use Rattle.wire.specs.Wires.{Vertices, vertices, Ends, ends, Wires, wires}
+use Rattle.wire.specs.Lines.{Line, lineOf}
+use Rattle.wire.specs.Wires.{Vertices, vertices, Ends, ends, Wires, wires, wiresIn, wiresOut}
 use Rattle.routing.specs.Roots.{rootPair}
 use Rattle.routing.specs.Branches.{Tried, routeWire, routeBranch, joinBranch}
 
 -- ---- lines
-
--- the line of the nodes l as the wires take it: exactly its entries
-unfoldable pub lineOf : Graph → List ℕ → Line
-lineOf G l =
-    line (table (place-at (G .xs) l) (length l)) (table (place-at (G .ys) l) (length l)) (table (kind-at (length l)) (length l)) (table (direction-at (G .links) l) (length l)) (length l)
 
 -- the line from (x, y) to one of the ends
 unfoldable pub foundLine : Graph → ℕ → ℕ → List ℕ → List ℕ → Line
@@ -43,14 +40,12 @@ rootFrom px py = rootPair px py (length px) / length px
 abbrev pub rootTo : List ℕ → List ℕ → ℕ
 rootTo px py = rootPair px py (length px) % length px
 
--- the root wire from endpoint a to endpoint b
+-- the root wire from (sx, sy) to (tx, ty), and from endpoint a to endpoint b
+abbrev pub rootWireTo : Graph → ℕ → ℕ → ℕ → ℕ → Wires → Tried
+rootWireTo G sx sy tx ty W = routeWire (foundLine G sx sy (tx ∷ []) (ty ∷ [])) sx sy tx ty (along G sx sy) true None W
+
 unfoldable pub rootWire : Graph → List ℕ → List ℕ → ℕ → ℕ → Wires → Tried
-rootWire G px py a b W =
-    let sx = getD px a 0 in
-    let sy = getD py a 0 in
-    let ex = getD px b 0 in
-    let ey = getD py b 0 in
-    routeWire (foundLine G sx sy (ex ∷ []) (ey ∷ [])) sx sy ex ey (along G sx sy) true None W
+rootWire G px py a b W = rootWireTo G (getD px a 0) (getD py a 0) (getD px b 0) (getD py b 0) W
 
 -- ---- the branches, `route_branch_wires`
 
@@ -68,9 +63,12 @@ branched number wires joins j = record { number = number; wires = wires; joins =
 unfoldable pub endWord : ℕ → List ℕ → ℕ → ℕ
 endWord w E i = getD E (4 * i + w) 0
 
--- the line from (x, y) to one of the ends of the net so far
+-- the line from (x, y) to one of the ends of the net so far, and its nodes
 unfoldable pub branchLine : Graph → ℕ → ℕ → Ends → Line
 branchLine G x y E = foundLine G x y (table (endWord 0 (E .rows)) (E .m)) (table (endWord 1 (E .rows)) (E .m))
+
+abbrev pub branchPath : Graph → ℕ → ℕ → Ends → List ℕ
+branchPath G x y E = line-between G x y (table (endWord 0 (E .rows)) (E .m)) (table (endWord 1 (E .rows)) (E .m))
 
 -- the branch from (x, y)
 unfoldable pub branchFrom : Graph → ℕ → ℕ → Branched → Branched
@@ -132,3 +130,11 @@ connectNet G px py P R j =
     let routed = kept (routeNet G px py P R j) P R j in
     cond (ltb (length px) 2) (refused 12 P R j)
     (cond (known (G .xs) (G .ys) (G .count) px py (length px)) routed (refused 13 P R j))
+
+-- ---- what a clause sees of the lent lists
+
+abbrev pub branchedIn : ℕ → Lent (List ℤ) → Lent (List ℤ) → Lent (List ℕ) → ℕ → Lent (List ℕ) → ℕ → Lent (List ℕ) → ℕ → Branched
+branchedIn number x y letters n rows m joins j = branched number (wiresIn x y letters n rows m) (old joins) j
+
+abbrev pub branchedOut : ℕ → Lent (List ℤ) → Lent (List ℤ) → Lent (List ℕ) → ℕ → Lent (List ℕ) → ℕ → Lent (List ℕ) → ℕ → Branched
+branchedOut number x y letters n rows m joins j = branched number (wiresOut x y letters n rows m) (new joins) j

@@ -4,19 +4,18 @@ ghost use mathlib.Core.Bool.{true, false, cond};
 ghost use lib.Dec.{eqb};
 ghost use mathlib.Core.List.{[], _∷_};
 ghost use Prim.Native.Nat.{_+_, _*_, _<_, _≤_};
-ghost use lib.ListN.{length, take};
+ghost use lib.ListN.{length, take, drop};
+ghost use Rattle.fixed.specs.Seen.{old, new};
 ghost use Rattle.fixed.specs.Up.{ups};
-ghost use Rattle.nodes.specs.Lent.{graph};
-ghost use Rattle.zeros.specs.Zeros.{closed};
+ghost use Rattle.nodes.specs.Graph.{NODES};
+ghost use Rattle.nodes.specs.Columns.{GRAPH-WORDS, graphIn, wholeIn};
 ghost use Rattle.path_finding.specs.Line.{table};
-ghost use Rattle.path_finding.specs.Places.{known};
-ghost use Rattle.wire.specs.Lines.{line};
-ghost use Rattle.wire.specs.Wires.{vertices, ends as endsOf, wires};
-ghost use Rattle.routing.specs.Branches.{tried, routeWire, routeBranch, joinBranch};
-ghost use Rattle.astar.specs.Reached.{Ready};
+ghost use Rattle.path_finding.specs.Places.{line-between, knownTo};
+ghost use Rattle.wire.specs.Wires.{ends as endsOf, verticesIn, verticesOut, wiresIn, wiresOut};
+ghost use Rattle.routing.specs.Branches.{tried, routeBranch, joinBranch};
 ghost use Rattle.net.specs.Points.{ROW, owns as ownsRow, column};
-ghost use Rattle.net.specs.Nets.{foundLine, alongAt, along as alongFrom, endWord, branched, branchLine, branchFrom, branchAt, net, refused, rootWire};
-ghost use Rattle.net.specs.Lent.{Space, Page, Bounds};
+ghost use Rattle.net.specs.Nets.{alongAt, along as alongFrom, endWord, branchPath, branchLine, branchFrom, branchAt, net, refused, rootWire, branchedIn, branchedOut, rootWireTo};
+ghost use Rattle.net.specs.Lent.{Searching, Page, Bounds};
 use routing::Step;
 use vertex::Junction;
 
@@ -31,34 +30,34 @@ pub struct Done {
 }
 
 // Whether the node s has an X direction.
-fn is_along(marks: &[u32], s: usize) -> bool
-    requires { ⌜ s < length (now marks) ⌝ }
-    ensures { λ r. ⌜ r ≡ alongAt (now (marks .entry)) s ⌝ }
+fn is_along(nodes: &[i32], s: usize) -> bool
+    requires { ⌜ (s < NODES) × (GRAPH-WORDS ≤ length (now nodes)) ⌝ }
+    ensures { λ r. ⌜ r ≡ alongAt (wholeIn nodes .marks) s ⌝ }
 {
-    marks[s] % 4 != 0
+    nodes::mark_of(nodes, s) % 4 != 0
 }
 
 // Whether the node at (x, y) has an X direction.
-fn along(xs: &[i32], ys: &[i32], links: &[u32], marks: &[u32], n: usize, x: u32, y: u32) -> bool
-    requires { ⌜ (n ≤ length (now xs)) × (n ≤ length (now ys)) × (n ≤ length (now marks)) ⌝ }
-    ensures { λ r. ⌜ r ≡ alongFrom (graph n (now (xs .entry)) (now (ys .entry)) (now (links .entry)) (now (marks .entry))) x y ⌝ }
+fn along(nodes: &[i32], n: usize, x: u32, y: u32) -> bool
+    requires { ⌜ (n ≤ NODES) × (GRAPH-WORDS ≤ length (now nodes)) ⌝ }
+    ensures { λ r. ⌜ r ≡ alongFrom (graphIn n nodes) x y ⌝ }
 {
-    let s = nodes::find_node(xs, ys, n, x, y);
+    let s = nodes::find_node(nodes, n, x, y);
     if s < n {
-        return is_along(marks, s);
+        return is_along(nodes, s);
     }
     false
 }
 
 // Whether each endpoint is a node.
-pub fn are_nodes(xs: &[i32], ys: &[i32], n: usize, px: &[u32], py: &[u32]) -> bool
-    requires { ⌜ (n ≤ length (now xs)) × (n ≤ length (now ys)) × (length (now py) ≡ length (now px)) ⌝ }
-    ensures { λ r. ⌜ r ≡ known (take n (ups (now (xs .entry)))) (take n (ups (now (ys .entry)))) n (now (px .entry)) (now (py .entry)) (length (now (px .entry))) ⌝ }
+pub fn are_nodes(nodes: &[i32], n: usize, px: &[u32], py: &[u32]) -> bool
+    requires { ⌜ (n ≤ NODES) × (GRAPH-WORDS ≤ length (now nodes)) × (length (now py) ≡ length (now px)) ⌝ }
+    ensures { λ r. ⌜ r ≡ knownTo (graphIn n nodes) (old px) (old py) (length (old px)) ⌝ }
 {
     let mut ok = true;
     let mut i: usize = 0;
     while i < px.len() {
-        let v = nodes::find_node(xs, ys, n, px[i], py[i]);
+        let v = nodes::find_node(nodes, n, px[i], py[i]);
         ok = ok & (v < n);
         i += 1;
     }
@@ -68,7 +67,7 @@ pub fn are_nodes(xs: &[i32], ys: &[i32], n: usize, px: &[u32], py: &[u32]) -> bo
 // Whether the row k is an end of the net.
 fn owns(ends: &[u32], id: u32, k: usize) -> bool
     requires { ⌜ (k < 256) × (k * ROW + ROW ≤ length (now ends)) ⌝ }
-    ensures { λ r. ⌜ r ≡ ownsRow (now (ends .entry)) id k ⌝ }
+    ensures { λ r. ⌜ r ≡ ownsRow (old ends) id k ⌝ }
 {
     ends[k * ROW] == id
 }
@@ -77,7 +76,7 @@ fn owns(ends: &[u32], id: u32, k: usize) -> bool
 fn take_point(ends: &[u32], id: u32, k: usize, px: &mut [u32], py: &mut [u32], m: usize) -> usize
     requires { ⌜ (k < 256) × (k * ROW + ROW ≤ length (now ends)) × (m ≤ k) × (k < length (now px)) × (k < length (now py)) ⌝ }
     requires { ⌜ (take m (now px) ≡ column 1 (now ends) id k) × (take m (now py) ≡ column 2 (now ends) id k) ⌝ }
-    ensures { λ r. ⌜ (r ≤ k + 1) × (take r (now (px .exit)) ≡ column 1 (now (ends .entry)) id (k + 1)) × (take r (now (py .exit)) ≡ column 2 (now (ends .entry)) id (k + 1)) ⌝ }
+    ensures { λ r. ⌜ (r ≤ k + 1) × (take r (new px) ≡ column 1 (old ends) id (k + 1)) × (take r (new py) ≡ column 2 (old ends) id (k + 1)) ⌝ }
 {
     if owns(ends, id, k) {
         px[m] = ends[k * ROW + 1];
@@ -90,7 +89,7 @@ fn take_point(ends: &[u32], id: u32, k: usize, px: &mut [u32], py: &mut [u32], m
 // The endpoints of a net among `count` rows: the first entries of px and py, as many as it returns.
 pub fn take_points(ends: &[u32], count: usize, id: u32, px: &mut [u32], py: &mut [u32]) -> usize
     requires { ⌜ (count ≤ 256) × (count * ROW ≤ length (now ends)) × (count ≤ length (now px)) × (count ≤ length (now py)) ⌝ }
-    ensures { λ r. ⌜ (r ≤ count) × (take r (now (px .exit)) ≡ column 1 (now (ends .entry)) id count) × (take r (now (py .exit)) ≡ column 2 (now (ends .entry)) id count) ⌝ }
+    ensures { λ r. ⌜ (r ≤ count) × (take r (new px) ≡ column 1 (old ends) id count) × (take r (new py) ≡ column 2 (old ends) id count) ⌝ }
 {
     let mut m: usize = 0;
     let mut k: usize = 0;
@@ -104,7 +103,7 @@ pub fn take_points(ends: &[u32], count: usize, id: u32, px: &mut [u32], py: &mut
 // Writes the word w of each of a net's m ends.
 fn write_ends(ends: &[u32], w: usize, m: usize, to: &mut [i32])
     requires { ⌜ (w < 2) × (m ≤ 4096) × (16384 ≤ length (now ends)) × (m ≤ length (now to)) ⌝ }
-    ensures { λ _. ⌜ take m (ups (now (to .exit))) ≡ table (endWord w (now (ends .entry))) m ⌝ }
+    ensures { λ _. ⌜ take m (ups (new to)) ≡ table (endWord w (old ends)) m ⌝ }
 {
     let mut i: usize = 0;
     while i < m {
@@ -124,7 +123,7 @@ pub fn refuse(
     j: usize,
 ) -> Done
     requires { ⌜ (n ≤ length (now x)) × (n ≤ length (now y)) × (n ≤ length (now letters)) × (j ≤ 256) × (3 * j ≤ length (now joins)) ⌝ }
-    ensures { λ r. ⌜ net (r .number) (vertices (ups (now (x .exit))) (ups (now (y .exit))) (now (letters .exit)) (r .n)) (now (joins .exit)) (r .j) ≡ refused number (vertices (ups (now (x .entry))) (ups (now (y .entry))) (now (letters .entry)) n) (now (joins .entry)) j ⌝ }
+    ensures { λ r. ⌜ net (r .number) (verticesOut x y letters (r .n)) (new joins) (r .j) ≡ refused number (verticesIn x y letters n) (old joins) j ⌝ }
 {
     zeros::zero_steps(x, n);
     zeros::zero_steps(y, n);
@@ -133,167 +132,83 @@ pub fn refuse(
     Done { number, n, j }
 }
 
-// The line from (x, y) to one of the ends: the first entries of its columns, as many as it returns. The scratch of the search is made here.
-fn find_line(
-    xs: &[i32],
-    ys: &[i32],
-    links: &[u32],
-    marks: &[u32],
-    n: usize,
-    x: u32,
-    y: u32,
-    ex: &[i32],
-    ey: &[i32],
-    lx: &mut [i32],
-    ly: &mut [i32],
-    kinds: &mut [u8],
-    ways: &mut [u8],
-) -> usize
-    requires { ⌜ (0 < n → Ready (graph n (now xs) (now ys) (now links) (now marks))) ⌝ }
-    requires { ⌜ (length (now ey) ≡ length (now ex)) × (length (now ex) ≤ 4096) ⌝ }
-    requires { ⌜ Space (length (now lx)) (length (now ly)) (length (now kinds)) (length (now ways)) ⌝ }
-    ensures { λ r. ⌜ (r ≤ 4096) × (line (take r (ups (now (lx .exit)))) (take r (ups (now (ly .exit)))) (take r (now (kinds .exit))) (take r (now (ways .exit))) r ≡ foundLine (graph n (now (xs .entry)) (now (ys .entry)) (now (links .entry)) (now (marks .entry))) x y (ups (now (ex .entry))) (ups (now (ey .entry)))) ⌝ }
-{
-    let a = search::find_path(
-        xs,
-        ys,
-        links,
-        marks,
-        n,
-        x,
-        y,
-        ex,
-        ey,
-        &mut lx[..n],
-        &mut ly[..n],
-        &mut kinds[..n],
-        &mut ways[..n],
-    );
-    a.nodes
-}
-
-// The line from (sx, sy) to (tx, ty).
+// The line from (sx, sy) to (tx, ty): the part of `list` from the result on.
 fn root_line(
-    xs: &[i32],
-    ys: &[i32],
-    links: &[u32],
-    marks: &[u32],
+    nodes: &[i32],
     n: usize,
     sx: u32,
     sy: u32,
     tx: u32,
     ty: u32,
-    lx: &mut [i32],
-    ly: &mut [i32],
-    kinds: &mut [u8],
-    ways: &mut [u8],
+    cells: &mut [u64],
+    tree: &mut [u64],
+    list: &mut [u32],
 ) -> usize
-    requires { ⌜ (0 < n → Ready (graph n (now xs) (now ys) (now links) (now marks))) ⌝ }
-    requires { ⌜ Space (length (now lx)) (length (now ly)) (length (now kinds)) (length (now ways)) ⌝ }
-    ensures { λ r. ⌜ (r ≤ 4096) × (line (take r (ups (now (lx .exit)))) (take r (ups (now (ly .exit)))) (take r (now (kinds .exit))) (take r (now (ways .exit))) r ≡ foundLine (graph n (now (xs .entry)) (now (ys .entry)) (now (links .entry)) (now (marks .entry))) sx sy (tx ∷ []) (ty ∷ [])) ⌝ }
+    requires { ⌜ Searching n (now nodes) (now cells) (now tree) (now list) ⌝ }
+    ensures { λ r. ⌜ (r ≤ length (new list)) × (drop r (new list) ≡ line-between (graphIn n nodes) sx sy (tx ∷ []) (ty ∷ [])) ⌝ }
 {
     let mut ex: [i32; 1] = [0; 1];
     let mut ey: [i32; 1] = [0; 1];
     fixed::put(&mut ex, 0, tx);
     fixed::put(&mut ey, 0, ty);
-    find_line(
-        xs,
-        ys,
-        links,
-        marks,
-        n,
-        sx,
-        sy,
-        &ex,
-        &ey,
-        lx,
-        ly,
-        kinds,
-        ways,
-    )
+    let a = path_finding::find_between(nodes, n, sx, sy, &ex, &ey, cells, tree, list);
+    list.len() - a.nodes
 }
 
 // The line from (sx, sy) to one of the net's m ends, whose places are written to ex and ey first.
 fn branch_line_in(
-    xs: &[i32],
-    ys: &[i32],
-    links: &[u32],
-    marks: &[u32],
+    nodes: &[i32],
     n: usize,
     sx: u32,
     sy: u32,
     rows: &[u32],
     m: usize,
-    lx: &mut [i32],
-    ly: &mut [i32],
-    kinds: &mut [u8],
-    ways: &mut [u8],
+    cells: &mut [u64],
+    tree: &mut [u64],
+    list: &mut [u32],
     ex: &mut [i32],
     ey: &mut [i32],
 ) -> usize
-    requires { ⌜ (0 < n → Ready (graph n (now xs) (now ys) (now links) (now marks))) ⌝ }
+    requires { ⌜ Searching n (now nodes) (now cells) (now tree) (now list) ⌝ }
     requires { ⌜ (m ≤ 4096) × (16384 ≤ length (now rows)) ⌝ }
-    requires { ⌜ Space (length (now lx)) (length (now ly)) (length (now kinds)) (length (now ways)) ⌝ }
     requires { ⌜ (m ≤ length (now ex)) × (m ≤ length (now ey)) ⌝ }
-    ensures { λ r. ⌜ (r ≤ 4096) × (line (take r (ups (now (lx .exit)))) (take r (ups (now (ly .exit)))) (take r (now (kinds .exit))) (take r (now (ways .exit))) r ≡ branchLine (graph n (now (xs .entry)) (now (ys .entry)) (now (links .entry)) (now (marks .entry))) sx sy (endsOf (now (rows .entry)) m)) ⌝ }
+    ensures { λ r. ⌜ (r ≤ length (new list)) × (drop r (new list) ≡ branchPath (graphIn n nodes) sx sy (endsOf (old rows) m)) ⌝ }
 {
     write_ends(rows, 0, m, ex);
     write_ends(rows, 1, m, ey);
-    find_line(
-        xs,
-        ys,
-        links,
-        marks,
-        n,
-        sx,
-        sy,
-        &ex[..m],
-        &ey[..m],
-        lx,
-        ly,
-        kinds,
-        ways,
-    )
+    let a = path_finding::find_between(nodes, n, sx, sy, &ex[..m], &ey[..m], cells, tree, list);
+    list.len() - a.nodes
 }
 
 // The same for at most 256 ends, whose columns take less time to clear.
 fn branch_line_few(
-    xs: &[i32],
-    ys: &[i32],
-    links: &[u32],
-    marks: &[u32],
+    nodes: &[i32],
     n: usize,
     sx: u32,
     sy: u32,
     rows: &[u32],
     m: usize,
-    lx: &mut [i32],
-    ly: &mut [i32],
-    kinds: &mut [u8],
-    ways: &mut [u8],
+    cells: &mut [u64],
+    tree: &mut [u64],
+    list: &mut [u32],
 ) -> usize
-    requires { ⌜ (0 < n → Ready (graph n (now xs) (now ys) (now links) (now marks))) ⌝ }
+    requires { ⌜ Searching n (now nodes) (now cells) (now tree) (now list) ⌝ }
     requires { ⌜ (m ≤ 4096) × (16384 ≤ length (now rows)) ⌝ }
-    requires { ⌜ Space (length (now lx)) (length (now ly)) (length (now kinds)) (length (now ways)) ⌝ }
     requires { ⌜ m ≤ 256 ⌝ }
-    ensures { λ r. ⌜ (r ≤ 4096) × (line (take r (ups (now (lx .exit)))) (take r (ups (now (ly .exit)))) (take r (now (kinds .exit))) (take r (now (ways .exit))) r ≡ branchLine (graph n (now (xs .entry)) (now (ys .entry)) (now (links .entry)) (now (marks .entry))) sx sy (endsOf (now (rows .entry)) m)) ⌝ }
+    ensures { λ r. ⌜ (r ≤ length (new list)) × (drop r (new list) ≡ branchPath (graphIn n nodes) sx sy (endsOf (old rows) m)) ⌝ }
 {
     let mut ex: [i32; 256] = [0; 256];
     let mut ey: [i32; 256] = [0; 256];
     branch_line_in(
-        xs,
-        ys,
-        links,
-        marks,
+        nodes,
         n,
         sx,
         sy,
         rows,
         m,
-        lx,
-        ly,
-        kinds,
-        ways,
+        cells,
+        tree,
+        list,
         &mut ex,
         &mut ey,
     )
@@ -301,41 +216,32 @@ fn branch_line_few(
 
 // The same for any number of ends.
 fn branch_line_many(
-    xs: &[i32],
-    ys: &[i32],
-    links: &[u32],
-    marks: &[u32],
+    nodes: &[i32],
     n: usize,
     sx: u32,
     sy: u32,
     rows: &[u32],
     m: usize,
-    lx: &mut [i32],
-    ly: &mut [i32],
-    kinds: &mut [u8],
-    ways: &mut [u8],
+    cells: &mut [u64],
+    tree: &mut [u64],
+    list: &mut [u32],
 ) -> usize
-    requires { ⌜ (0 < n → Ready (graph n (now xs) (now ys) (now links) (now marks))) ⌝ }
+    requires { ⌜ Searching n (now nodes) (now cells) (now tree) (now list) ⌝ }
     requires { ⌜ (m ≤ 4096) × (16384 ≤ length (now rows)) ⌝ }
-    requires { ⌜ Space (length (now lx)) (length (now ly)) (length (now kinds)) (length (now ways)) ⌝ }
-    ensures { λ r. ⌜ (r ≤ 4096) × (line (take r (ups (now (lx .exit)))) (take r (ups (now (ly .exit)))) (take r (now (kinds .exit))) (take r (now (ways .exit))) r ≡ branchLine (graph n (now (xs .entry)) (now (ys .entry)) (now (links .entry)) (now (marks .entry))) sx sy (endsOf (now (rows .entry)) m)) ⌝ }
+    ensures { λ r. ⌜ (r ≤ length (new list)) × (drop r (new list) ≡ branchPath (graphIn n nodes) sx sy (endsOf (old rows) m)) ⌝ }
 {
     let mut ex: [i32; 4096] = [0; 4096];
     let mut ey: [i32; 4096] = [0; 4096];
     branch_line_in(
-        xs,
-        ys,
-        links,
-        marks,
+        nodes,
         n,
         sx,
         sy,
         rows,
         m,
-        lx,
-        ly,
-        kinds,
-        ways,
+        cells,
+        tree,
+        list,
         &mut ex,
         &mut ey,
     )
@@ -343,65 +249,29 @@ fn branch_line_many(
 
 // The line from (sx, sy) to one of the net's m ends.
 fn branch_line(
-    xs: &[i32],
-    ys: &[i32],
-    links: &[u32],
-    marks: &[u32],
+    nodes: &[i32],
     n: usize,
     sx: u32,
     sy: u32,
     rows: &[u32],
     m: usize,
-    lx: &mut [i32],
-    ly: &mut [i32],
-    kinds: &mut [u8],
-    ways: &mut [u8],
+    cells: &mut [u64],
+    tree: &mut [u64],
+    list: &mut [u32],
 ) -> usize
-    requires { ⌜ (0 < n → Ready (graph n (now xs) (now ys) (now links) (now marks))) ⌝ }
+    requires { ⌜ Searching n (now nodes) (now cells) (now tree) (now list) ⌝ }
     requires { ⌜ (m ≤ 4096) × (16384 ≤ length (now rows)) ⌝ }
-    requires { ⌜ Space (length (now lx)) (length (now ly)) (length (now kinds)) (length (now ways)) ⌝ }
-    ensures { λ r. ⌜ (r ≤ 4096) × (line (take r (ups (now (lx .exit)))) (take r (ups (now (ly .exit)))) (take r (now (kinds .exit))) (take r (now (ways .exit))) r ≡ branchLine (graph n (now (xs .entry)) (now (ys .entry)) (now (links .entry)) (now (marks .entry))) sx sy (endsOf (now (rows .entry)) m)) ⌝ }
+    ensures { λ r. ⌜ (r ≤ length (new list)) × (drop r (new list) ≡ branchPath (graphIn n nodes) sx sy (endsOf (old rows) m)) ⌝ }
 {
     if m <= 256 {
-        return branch_line_few(
-            xs,
-            ys,
-            links,
-            marks,
-            n,
-            sx,
-            sy,
-            rows,
-            m,
-            lx,
-            ly,
-            kinds,
-            ways,
-        );
+        return branch_line_few(nodes, n, sx, sy, rows, m, cells, tree, list);
     }
-    branch_line_many(
-        xs,
-        ys,
-        links,
-        marks,
-        n,
-        sx,
-        sy,
-        rows,
-        m,
-        lx,
-        ly,
-        kinds,
-        ways,
-    )
+    branch_line_many(nodes, n, sx, sy, rows, m, cells, tree, list)
 }
 
 // The root wire from (sx, sy) to (tx, ty), the first of its net.
 fn root_wire(
-    xs: &[i32],
-    ys: &[i32],
-    links: &[u32],
-    marks: &[u32],
+    nodes: &[i32],
     n: usize,
     sx: u32,
     sy: u32,
@@ -412,25 +282,21 @@ fn root_wire(
     letters: &mut [u8],
     count: usize,
     rows: &mut [u32],
-    lx: &mut [i32],
-    ly: &mut [i32],
-    kinds: &mut [u8],
-    ways: &mut [u8],
+    cells: &mut [u64],
+    tree: &mut [u64],
+    list: &mut [u32],
 ) -> Step
-    requires { ⌜ (0 < n → Ready (graph n (now xs) (now ys) (now links) (now marks))) ⌝ }
+    requires { ⌜ Searching n (now nodes) (now cells) (now tree) (now list) ⌝ }
     requires { ⌜ Page (length (now x)) (length (now y)) (length (now letters)) (length (now rows)) ⌝ }
     requires { ⌜ count ≤ 512 ⌝ }
-    requires { ⌜ Space (length (now lx)) (length (now ly)) (length (now kinds)) (length (now ways)) ⌝ }
-    ensures { λ r. ⌜ tried (r .number) (wires (vertices (ups (now (x .exit))) (ups (now (y .exit))) (now (letters .exit)) (r .n)) (endsOf (now (rows .exit)) (r .m))) ≡ routeWire (foundLine (graph n (now (xs .entry)) (now (ys .entry)) (now (links .entry)) (now (marks .entry))) sx sy (tx ∷ []) (ty ∷ [])) sx sy tx ty (alongFrom (graph n (now (xs .entry)) (now (ys .entry)) (now (links .entry)) (now (marks .entry))) sx sy) true Junction.None (wires (vertices (ups (now (x .entry))) (ups (now (y .entry))) (now (letters .entry)) count) (endsOf (now (rows .entry)) 0)) ⌝ }
+    ensures { λ r. ⌜ tried (r .number) (wiresOut x y letters (r .n) rows (r .m)) ≡ rootWireTo (graphIn n nodes) sx sy tx ty (wiresIn x y letters count rows 0) ⌝ }
 {
-    let ahead = along(xs, ys, links, marks, n, sx, sy);
-    let c = root_line(xs, ys, links, marks, n, sx, sy, tx, ty, lx, ly, kinds, ways);
+    let ahead = along(nodes, n, sx, sy);
+    let at = root_line(nodes, n, sx, sy, tx, ty, cells, tree, list);
     routing::route_wire(
-        &lx[..c],
-        &ly[..c],
-        &kinds[..c],
-        &ways[..c],
-        c,
+        nodes,
+        n,
+        &list[at..],
         sx,
         sy,
         tx,
@@ -449,10 +315,7 @@ fn root_wire(
 
 // The branch from (sx, sy), behind m ends and j junctions of its net and page.
 fn branch(
-    xs: &[i32],
-    ys: &[i32],
-    links: &[u32],
-    marks: &[u32],
+    nodes: &[i32],
     n: usize,
     sx: u32,
     sy: u32,
@@ -464,40 +327,22 @@ fn branch(
     m: usize,
     joins: &mut [u32],
     j: usize,
-    lx: &mut [i32],
-    ly: &mut [i32],
-    kinds: &mut [u8],
-    ways: &mut [u8],
+    cells: &mut [u64],
+    tree: &mut [u64],
+    list: &mut [u32],
 ) -> Step
-    requires { ⌜ (0 < n → Ready (graph n (now xs) (now ys) (now links) (now marks))) ⌝ }
+    requires { ⌜ Searching n (now nodes) (now cells) (now tree) (now list) ⌝ }
     requires { ⌜ Page (length (now x)) (length (now y)) (length (now letters)) (length (now rows)) ⌝ }
     requires { ⌜ (count ≤ 512) × (0 < m) × (m ≤ 4096) × (j < 256) × (768 ≤ length (now joins)) ⌝ }
-    requires { ⌜ Space (length (now lx)) (length (now ly)) (length (now kinds)) (length (now ways)) ⌝ }
-    ensures { λ r. ⌜ tried (r .number) (wires (vertices (ups (now (x .exit))) (ups (now (y .exit))) (now (letters .exit)) (r .n)) (endsOf (now (rows .exit)) (r .m))) ≡ routeBranch (branchLine (graph n (now (xs .entry)) (now (ys .entry)) (now (links .entry)) (now (marks .entry))) sx sy (endsOf (now (rows .entry)) m)) sx sy (alongFrom (graph n (now (xs .entry)) (now (ys .entry)) (now (links .entry)) (now (marks .entry))) sx sy) (wires (vertices (ups (now (x .entry))) (ups (now (y .entry))) (now (letters .entry)) count) (endsOf (now (rows .entry)) m)) ⌝ }
-    ensures { λ _. ⌜ now (joins .exit) ≡ joinBranch (branchLine (graph n (now (xs .entry)) (now (ys .entry)) (now (links .entry)) (now (marks .entry))) sx sy (endsOf (now (rows .entry)) m)) sx sy (alongFrom (graph n (now (xs .entry)) (now (ys .entry)) (now (links .entry)) (now (marks .entry))) sx sy) (wires (vertices (ups (now (x .entry))) (ups (now (y .entry))) (now (letters .entry)) count) (endsOf (now (rows .entry)) m)) (now (joins .entry)) j ⌝ }
+    ensures { λ r. ⌜ tried (r .number) (wiresOut x y letters (r .n) rows (r .m)) ≡ routeBranch (branchLine (graphIn n nodes) sx sy (endsOf (old rows) m)) sx sy (alongFrom (graphIn n nodes) sx sy) (wiresIn x y letters count rows m) ⌝ }
+    ensures { λ _. ⌜ new joins ≡ joinBranch (branchLine (graphIn n nodes) sx sy (endsOf (old rows) m)) sx sy (alongFrom (graphIn n nodes) sx sy) (wiresIn x y letters count rows m) (old joins) j ⌝ }
 {
-    let ahead = along(xs, ys, links, marks, n, sx, sy);
-    let c = branch_line(
-        xs,
-        ys,
-        links,
-        marks,
-        n,
-        sx,
-        sy,
-        rows,
-        m,
-        lx,
-        ly,
-        kinds,
-        ways,
-    );
+    let ahead = along(nodes, n, sx, sy);
+    let at = branch_line(nodes, n, sx, sy, rows, m, cells, tree, list);
     routing::route_branch(
-        &lx[..c],
-        &ly[..c],
-        &kinds[..c],
-        &ways[..c],
-        c,
+        nodes,
+        n,
+        &list[at..],
         sx,
         sy,
         ahead,
@@ -543,10 +388,7 @@ fn with_junction(t: Step, j: usize) -> Made
 
 // The branch from (sx, sy) with its junction.
 fn branch_from(
-    xs: &[i32],
-    ys: &[i32],
-    links: &[u32],
-    marks: &[u32],
+    nodes: &[i32],
     n: usize,
     sx: u32,
     sy: u32,
@@ -558,22 +400,17 @@ fn branch_from(
     m: usize,
     joins: &mut [u32],
     j: usize,
-    lx: &mut [i32],
-    ly: &mut [i32],
-    kinds: &mut [u8],
-    ways: &mut [u8],
+    cells: &mut [u64],
+    tree: &mut [u64],
+    list: &mut [u32],
 ) -> Made
-    requires { ⌜ (0 < n → Ready (graph n (now xs) (now ys) (now links) (now marks))) ⌝ }
+    requires { ⌜ Searching n (now nodes) (now cells) (now tree) (now list) ⌝ }
     requires { ⌜ Page (length (now x)) (length (now y)) (length (now letters)) (length (now rows)) ⌝ }
     requires { ⌜ (count ≤ 512) × (0 < m) × (m ≤ 4096) × (j < 256) × (768 ≤ length (now joins)) ⌝ }
-    requires { ⌜ Space (length (now lx)) (length (now ly)) (length (now kinds)) (length (now ways)) ⌝ }
-    ensures { λ r. ⌜ branched (r .number) (wires (vertices (ups (now (x .exit))) (ups (now (y .exit))) (now (letters .exit)) (r .n)) (endsOf (now (rows .exit)) (r .m))) (now (joins .exit)) (r .j) ≡ branchFrom (graph n (now (xs .entry)) (now (ys .entry)) (now (links .entry)) (now (marks .entry))) sx sy (branched 0 (wires (vertices (ups (now (x .entry))) (ups (now (y .entry))) (now (letters .entry)) count) (endsOf (now (rows .entry)) m)) (now (joins .entry)) j) ⌝ }
+    ensures { λ r. ⌜ branchedOut (r .number) x y letters (r .n) rows (r .m) joins (r .j) ≡ branchFrom (graphIn n nodes) sx sy (branchedIn 0 x y letters count rows m joins j) ⌝ }
 {
     let t = branch(
-        xs,
-        ys,
-        links,
-        marks,
+        nodes,
         n,
         sx,
         sy,
@@ -585,91 +422,65 @@ fn branch_from(
         m,
         joins,
         j,
-        lx,
-        ly,
-        kinds,
-        ways,
+        cells,
+        tree,
+        list,
     );
     with_junction(t, j)
 }
 
-// The endpoint i, which has no branch if it is one of the root pair a and b or a wire was refused.
+// The endpoint i of a net of which that is made: it has no branch if it is one of the root pair a and b or a wire was refused.
 pub fn branch_at(
-    xs: &[i32],
-    ys: &[i32],
-    links: &[u32],
-    marks: &[u32],
+    nodes: &[i32],
     n: usize,
     px: &[u32],
     py: &[u32],
     a: usize,
     b: usize,
     i: usize,
-    number: u32,
+    made: Made,
     x: &mut [i32],
     y: &mut [i32],
     letters: &mut [u8],
-    count: usize,
     rows: &mut [u32],
-    m: usize,
     joins: &mut [u32],
-    j: usize,
-    lx: &mut [i32],
-    ly: &mut [i32],
-    kinds: &mut [u8],
-    ways: &mut [u8],
+    cells: &mut [u64],
+    tree: &mut [u64],
+    list: &mut [u32],
 ) -> Made
-    requires { ⌜ (0 < n → Ready (graph n (now xs) (now ys) (now links) (now marks))) ⌝ }
+    requires { ⌜ Searching n (now nodes) (now cells) (now tree) (now list) ⌝ }
     requires { ⌜ Page (length (now x)) (length (now y)) (length (now letters)) (length (now rows)) ⌝ }
-    requires { ⌜ (i < length (now px)) × (length (now px) ≤ 256) × (length (now py) ≡ length (now px)) × (number ≡ 0 → Bounds count m j) × (768 ≤ length (now joins)) ⌝ }
-    requires { ⌜ Space (length (now lx)) (length (now ly)) (length (now kinds)) (length (now ways)) ⌝ }
-    ensures { λ r. ⌜ branched (r .number) (wires (vertices (ups (now (x .exit))) (ups (now (y .exit))) (now (letters .exit)) (r .n)) (endsOf (now (rows .exit)) (r .m))) (now (joins .exit)) (r .j) ≡ branchAt (graph n (now (xs .entry)) (now (ys .entry)) (now (links .entry)) (now (marks .entry))) (now (px .entry)) (now (py .entry)) a b i (branched number (wires (vertices (ups (now (x .entry))) (ups (now (y .entry))) (now (letters .entry)) count) (endsOf (now (rows .entry)) m)) (now (joins .entry)) j) ⌝ }
+    requires { ⌜ (i < length (now px)) × (length (now px) ≤ 256) × (length (now py) ≡ length (now px)) × (made .number ≡ 0 → Bounds (made .n) (made .m) (made .j)) × (768 ≤ length (now joins)) ⌝ }
+    ensures { λ r. ⌜ branchedOut (r .number) x y letters (r .n) rows (r .m) joins (r .j) ≡ branchAt (graphIn n nodes) (old px) (old py) a b i (branchedIn (made .number) x y letters (made .n) rows (made .m) joins (made .j)) ⌝ }
 {
-    if number != 0 {
-        return Made {
-            number,
-            n: count,
-            m,
-            j,
-        };
+    if made.number != 0 {
+        return made;
     }
     if (i == a) | (i == b) {
-        return Made {
-            number,
-            n: count,
-            m,
-            j,
-        };
+        return made;
     }
     branch_from(
-        xs,
-        ys,
-        links,
-        marks,
+        nodes,
         n,
         px[i],
         py[i],
         x,
         y,
         letters,
-        count,
+        made.n,
         rows,
-        m,
+        made.m,
         joins,
-        j,
-        lx,
-        ly,
-        kinds,
-        ways,
+        made.j,
+        cells,
+        tree,
+        list,
     )
 }
 
 // The root wire from the endpoint a to the endpoint b, the first of its net.
 pub fn root_at(
-    xs: &[i32],
-    ys: &[i32],
-    links: &[u32],
-    marks: &[u32],
+    nodes: &[i32],
     n: usize,
     px: &[u32],
     py: &[u32],
@@ -680,22 +491,17 @@ pub fn root_at(
     letters: &mut [u8],
     count: usize,
     rows: &mut [u32],
-    lx: &mut [i32],
-    ly: &mut [i32],
-    kinds: &mut [u8],
-    ways: &mut [u8],
+    cells: &mut [u64],
+    tree: &mut [u64],
+    list: &mut [u32],
 ) -> Step
-    requires { ⌜ (0 < n → Ready (graph n (now xs) (now ys) (now links) (now marks))) ⌝ }
+    requires { ⌜ Searching n (now nodes) (now cells) (now tree) (now list) ⌝ }
     requires { ⌜ Page (length (now x)) (length (now y)) (length (now letters)) (length (now rows)) ⌝ }
     requires { ⌜ (a < length (now px)) × (b < length (now px)) × (length (now px) ≤ 256) × (length (now py) ≡ length (now px)) × (count ≤ 512) ⌝ }
-    requires { ⌜ Space (length (now lx)) (length (now ly)) (length (now kinds)) (length (now ways)) ⌝ }
-    ensures { λ r. ⌜ tried (r .number) (wires (vertices (ups (now (x .exit))) (ups (now (y .exit))) (now (letters .exit)) (r .n)) (endsOf (now (rows .exit)) (r .m))) ≡ rootWire (graph n (now (xs .entry)) (now (ys .entry)) (now (links .entry)) (now (marks .entry))) (now (px .entry)) (now (py .entry)) a b (wires (vertices (ups (now (x .entry))) (ups (now (y .entry))) (now (letters .entry)) count) (endsOf (now (rows .entry)) 0)) ⌝ }
+    ensures { λ r. ⌜ tried (r .number) (wiresOut x y letters (r .n) rows (r .m)) ≡ rootWire (graphIn n nodes) (old px) (old py) a b (wiresIn x y letters count rows 0) ⌝ }
 {
     root_wire(
-        xs,
-        ys,
-        links,
-        marks,
+        nodes,
         n,
         px[a],
         py[a],
@@ -706,9 +512,8 @@ pub fn root_at(
         letters,
         count,
         rows,
-        lx,
-        ly,
-        kinds,
-        ways,
+        cells,
+        tree,
+        list,
     )
 }

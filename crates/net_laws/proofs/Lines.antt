@@ -47,7 +47,7 @@ module _ (L : Line) (isRoot : Bool) (J : Junction) (k : ℕ) (O : Wires) where
 module _ (Spot : ℕ → ℕ → Type 0) (lo hi : ℕ) (range : (x y : ℕ) → Spot x y → In lo hi x y) (O : Wires) (long : Long O)
     (near-x : Within lo hi (O .page .n) (O .page .x)) (near-y : Within lo hi (O .page .n) (O .page .y)) where
   module _ (L : Line) (D : Drawn Spot L) (isRoot : Bool) (J : Junction) (two : 2 ≤ L .count)
-      (n-fits : O .page .n + lineVertices (L .kinds) (L .ways) (L .count) ≤ 512) (m-fits : O .net .m + lineEnds (L .count) ≤ 4096) where
+      (n-fits : O .page .n + lineVertices L ≤ 512) (m-fits : O .net .m + lineEnds L ≤ 4096) where
     abbrev sx : ℕ
     sx = getD (L .x) 0 0
 

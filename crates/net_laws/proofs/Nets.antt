@@ -53,10 +53,10 @@ module _ (Spot : ℕ → ℕ → Type 0) (lo hi : ℕ) (range : (x y : ℕ) → 
     line-made h = one (eqb (L .count) 1) refl
       where
         v : ℕ
-        v = lineVertices (L .kinds) (L .ways) (L .count)
+        v = lineVertices L
 
         m : ℕ
-        m = lineEnds (L .count)
+        m = lineEnds L
 
         by : (L .count ≡ 1 → ⊥) → (b : Bool) → b ≡ fits (W .page .n) v (W .net .m) m → cond b (tried 0 (pushVertices L isRoot J W)) (tried 15 W) .number ≡ 0
             → Made (cond b (tried 0 (pushVertices L isRoot J W)) (tried 15 W) .wires)

@@ -39,7 +39,7 @@ pub record Start (Spot : ℕ → ℕ → Type 0) (lo hi : ℕ) (O : Wires) : Typ
 abbrev pub LineWire : Type 1
 LineWire =
     (Spot : ℕ → ℕ → Type 0) (lo hi : ℕ) (O : Wires) → Start Spot lo hi O → (L : Line) → Drawn Spot L → (isRoot : Bool) (J : Junction) → 2 ≤ L .count
-    → O .page .n + lineVertices (L .kinds) (L .ways) (L .count) ≤ 512 → O .net .m + lineEnds (L .count) ≤ 4096
+    → O .page .n + lineVertices L ≤ 512 → O .net .m + lineEnds L ≤ 4096
     → Wire Spot lo hi O (pushVertices L isRoot J O) (getD (L .x) 0 0) (getD (L .y) 0 0) (getD (L .x) (L .count - 1) 0) (getD (L .y) (L .count - 1) 0) J
 
 abbrev pub FallbackWire : Type 1

@@ -1,9 +1,9 @@
--- What is handed back: the graph's count, or that the page is crowded.
+-- What is handed back: that the page is crowded, or how many nodes its graph has.
 --     answered-full, made-answered    of a crowded page, and of a graph that was made
 --     grown, grown-answer             of the explicit anchors and the implicit ones behind them
 --     page-answer                     of a page
-use mathlib.Core.Path.{_≡_, ap}
-use mathlib.Core.Bool.{Bool, true}
+use mathlib.Core.Path.{_≡_, sym, ap, _∙_}
+use mathlib.Core.Bool.{Bool, true, cond}
 use mathlib.Core.List.{List}
 use Prim.Native.Nat.{ℕ, _+_, _<_, _≤_}
 use native.Mathlib.Omega.{arith}
@@ -11,34 +11,36 @@ use borrow.Author.Tests.{lt-ltb, le-ltb}
 use lib.Dec.{ltb}
 use lib.IntN.{ℤ}
 use lib.ListN.{length}
-use Rattle.fixed.specs.Constants.{COORDS}
 use Rattle.fixed.proofs.Bools.{clash}
 use Rattle.axis.proofs.Small.{Place, place, before, beyond}
 use Rattle.corridors.specs.Sizes.{ANCHORS}
 use Rattle.nodes.specs.Graph.{Graph, NODES}
-use Rattle.nodes.specs.Lent.{graph}
+use Rattle.nodes.specs.Columns.{graph}
 use Rattle.anchors.specs.Records.{Records}
 use Rattle.anchors.specs.Explicit.{Columns, explicit, columns}
-use Rattle.anchors.proofs.Columns.{long}
+use Rattle.fixed.proofs.Columns.{length-column}
 use Rattle.graph.specs.Build.{Boxes, whole, made, Made}
-use Rattle.page_graph.specs.Page.{CROWDED, padded-boxes, boxes-of-page, anchors-of-page, crowded, page-graph, implicit, anchors-of, all-anchors, overfull, number}
-use Rattle.page_graph.specs.Lent.{Answered, Gathered, number-of}
+use Rattle.page_graph.specs.Page.{padded-boxes, boxes-of-page, anchors-of-page, crowded, page-graph, implicit, then-implicit, anchors-of, all-anchors, overfull, graphed}
+use Rattle.page_graph.specs.Lent.{Answered}
+use Rattle.page_graph.specs.declared.Graphed.{Graphed}
+use Rattle.page_graph.specs.declared.Graphed.the-variants.{Crowded, Nodes}
 
-pub answered-full : {v : Graph} (full : Bool) (g : Graph) → full ≡ true → Answered CROWDED v full g
-unfolding number
-answered-full full g e = record { count = rw e; same = λ f. absurd (clash e f) }
+pub answered-full : {l : List ℤ} (full : Bool) (g : Graph) → full ≡ true → Answered Crowded l full g
+unfolding graphed
+answered-full full g e = record { is = rw e; few = λ f. absurd (clash e f); same = λ f. absurd (clash e f) }
 
-pub made-answered : (n r : ℕ) (xs ys : List ℤ) (links marks : List ℕ) {u g : Graph} → r ≡ number-of n → Made n (graph n xs ys links marks) u g → Answered r (graph r xs ys links marks) (ltb NODES (u .count)) g
-unfolding number
-made-answered n r xs ys links marks {u} {g} e d = by (place (NODES + 1) n)
+pub made-answered : (n : ℕ) (r : Graphed) (l : List ℤ) {u g : Graph} → r ≡ cond (ltb NODES n) Crowded (Nodes n) → Made n (graph n l) u g → Answered r l (ltb NODES (u .count)) g
+unfolding graphed
+made-answered n r l {u} {g} e d = by (place (NODES + 1) n)
   where
-    by : Place (NODES + 1) n → Answered r (graph r xs ys links marks) (ltb NODES (u .count)) g
+    by : Place (NODES + 1) n → Answered r l (ltb NODES (u .count)) g
     by (before h) =
-        let q : r ≡ n = rw (le-ltb NODES n (omega arith)) at e in
+        let q : r ≡ Nodes n = rw (le-ltb NODES n (omega arith)) at e in
         let s = d .same (omega arith) in
-        rw q (record { count = rw (le-ltb NODES (u .count) (d .fits (omega arith))) (ap (λ (w : Graph). w .count) s); same = λ _. s })
+        let k : n ≡ g .count = ap (λ (w : Graph). w .count) s in
+        rw q (record { is = rw (le-ltb NODES (u .count) (d .fits (omega arith)), ← k); few = λ _. omega (arith, k); same = λ _. ap (λ (m : ℕ). graph m l) (sym k) ∙ s })
     by (beyond j h) =
-        let q : r ≡ CROWDED = rw (lt-ltb NODES n (omega arith)) at e in
+        let q : r ≡ Crowded = rw (lt-ltb NODES n (omega arith)) at e in
         rw q (answered-full (ltb NODES (u .count)) g (lt-ltb NODES (u .count) (d .full (omega arith))))
 
 -- ---- all anchors
@@ -53,19 +55,20 @@ module _ (b : Boxes) (c : Columns) where
   overfull-nodes h = rw (le-ltb ANCHORS (length (implicit b .xs)) h)
 
   -- the anchors v are those of c, e of them, and the implicit ones
-  pub grown : (v : Columns) (e r : ℕ) → length (c .xs) ≡ e → Gathered r v c (implicit b) → r ≤ COORDS → anchors-of e v ≡ all-anchors b c
-  unfolding all-anchors
-  grown v e r l g h = rw (g .same h, ← l)
+  module _ (v : Columns) (e : ℕ) (l : length (c .xs) ≡ e) (g : v ≡ then-implicit c (implicit b)) where
+    pub grown : anchors-of e v ≡ all-anchors b c
+    unfolding all-anchors
+    grown = rw (g, ← l)
 
-  pub grown-answer : (v : Columns) (e r : ℕ) (pruned : Bool) {n : ℕ} {w : Graph} → length (c .xs) ≡ e → Gathered r v c (implicit b) → r ≤ COORDS → Answered n w (ltb NODES (whole b (anchors-of e v) .count)) (made b (anchors-of e v) pruned) → Answered n w (overfull b c) (made b (all-anchors b c) pruned)
-  grown-answer v e r pruned l g h a = rw (overfull-nodes (g .fits h), ← grown v e r l g h) a
+    pub grown-answer : (pruned : Bool) {r : Graphed} {o : List ℤ} → length (implicit b .xs) ≤ ANCHORS → Answered r o (ltb NODES (whole b (anchors-of e v) .count)) (made b (anchors-of e v) pruned) → Answered r o (overfull b c) (made b (all-anchors b c) pruned)
+    grown-answer pruned h a = rw (overfull-nodes h, ← grown) a
 
 -- ---- a page
 
-pub page-answer : (r : Records) (b : Boxes) (c : Columns) (pruned : Bool) {n : ℕ} {w : Graph} → b ≡ padded-boxes (r .boxes) (r .box-count) → c ≡ explicit r → Answered n w (overfull b c) (made b (all-anchors b c) pruned) → Answered n w (crowded r) (page-graph r pruned)
+pub page-answer : (r : Records) (b : Boxes) (c : Columns) (pruned : Bool) {n : Graphed} {w : List ℤ} → b ≡ padded-boxes (r .boxes) (r .box-count) → c ≡ explicit r → Answered n w (overfull b c) (made b (all-anchors b c) pruned) → Answered n w (crowded r) (page-graph r pruned)
 unfolding crowded page-graph anchors-of-page boxes-of-page
 page-answer r b c pruned e f a = rw (← e, ← f) a
 
 -- how many explicit anchors there are
-pub explicit-count : (r : Records) (n k : ℕ) (cx cy : List ℤ) (dirs own : List ℕ) → n ≤ length cx → columns n cx cy dirs own ≡ explicit r → length (explicit r .xs) ≤ k → n ≤ k
-explicit-count r n k cx cy dirs own h e l = omega (arith, rw (← e) at l, long n cx cy dirs own h)
+pub explicit-count : (r : Records) (n k : ℕ) (l : List ℤ) → columns n l ≡ explicit r → length (explicit r .xs) ≤ k → n ≤ k
+explicit-count r n k l e h = omega (arith, rw (← e) at h, length-column 0 n l)

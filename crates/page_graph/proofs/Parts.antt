@@ -1,9 +1,8 @@
--- Parts of the lent lists: the first n of a list, and what was laid behind them.
---     part-by      the first n of a list that begins with n known ones
---     padded-by    the padded boxes are the first n of four lists of edges
---     same-begin, same-on      the entries of one value behind the first ones
+-- Parts of the lent lists: columns, and what was laid in them.
+--     laid-at, laid-before      a column that was lent as a part of its list
+--     padded-by    the padded boxes are four columns of edges
+--     same-begin, same-on, before-on      the entries of one value behind the first ones
 --     edges-at, edges-bounded, within-padded    the padded edges, and where they lie
---     laid-words, laid-steps    m were laid in what was lent behind the first n, and these are as they were
 use mathlib.Core.Path.{_≡_, refl, sym, ap, _∙_}
 use mathlib.Core.Bool.{Bool, true, false}
 use mathlib.Core.List.{List, [], _∷_, _++_, append-assoc, append-nil}
@@ -11,68 +10,92 @@ use Prim.Native.Nat.{ℕ, zero, suc, _+_, _-_, _*_, _<_, _≤_}
 use native.Mathlib.Numerals.{add-one}
 use native.Mathlib.Omega.{arith}
 use lib.IntN.{ℤ}
-use lib.ListN.{length, getD, take, set, replicate, replicate-append-replicate, List·getD-append}
-use lib.Seq.{length-take-le, take-at, take-append-add, take-append-le, take-suc-set, getD-at}
+use lib.ListN.{length, getD, take, set, replicate, replicate-append-replicate, List·getD-append, length-append}
+use lib.Seq.{length-take-le, getD-take, getD-at, getD-append-add, getD-set-same, getD-set-other, ext-getD}
 use Rattle.fixed.specs.Constants.{PADDING, LEAST, GREATEST, BOXES}
 use Rattle.fixed.specs.Up.{up, ups}
+use Rattle.fixed.specs.Columns.{column}
 use Rattle.fixed.proofs.Lists.{length-ups, ups-take}
+use Rattle.fixed.proofs.Columns.{length-column, column-at, column-none, column-more, column-same, beyond}
 use Rattle.axis.proofs.Small.{Same, yes, no, same?}
 use Rattle.sightline.specs.Boxes.{padded, edges, Fields}
-use Rattle.sightline.specs.Lent.{Held}
 use Rattle.sightline.proofs.Padding.{length-edges}
 use Rattle.corridors.specs.Answer.{Inside}
 use Rattle.corridors.specs.Rules.{Padded}
 use Rattle.corridors.proofs.Places.{padded-inside}
-use Rattle.scan.specs.Lent.{anchors, Anchored}
+use Rattle.scan.specs.Lent.{anchors}
 use Rattle.anchors.specs.Records.{BOX}
 use Rattle.anchors.specs.Explicit.{columns}
 use Rattle.graph.specs.Build.{Boxes, boxes-of}
 use Rattle.page_graph.specs.Page.{padded-boxes, anchors-of}
-use Rattle.page_graph.specs.Lent.{Edged, Scratch, Within}
+use Rattle.page_graph.specs.Lent.{Edged, Within, Before}
 
 pub ups-append : (a b : List ℤ) → ups (a ++ b) ≡ ups a ++ ups b
 unfolding ups
 ups-append [] b = refl
 ups-append (z ∷ a) b = ap (λ (l : List ℕ). up z ∷ l) (ups-append a b)
 
-pub part-by : (n : ℕ) (l : List ℤ) (p q : List ℕ) → length p ≡ n → ups l ≡ p ++ q → ups (take n l) ≡ p
-part-by n l p q e h = ups-take n l ∙ ap (take n) h ∙ take-at p q n e
+-- ---- a part of the list from the word a on was lent, and is p now
 
-pub padded-by : (rows : List ℕ) (n : ℕ) (bx by ex ey : List ℤ) (p q s t : List ℕ) → ups bx ≡ edges rows BOX 1 false n ++ p → ups by ≡ edges rows BOX 2 false n ++ q → ups ex ≡ edges rows BOX 3 true n ++ s → ups ey ≡ edges rows BOX 4 true n ++ t → boxes-of (take n bx) (take n by) (take n ex) (take n ey) n ≡ padded-boxes rows n
+module _ (a n : ℕ) (l p t : List ℤ) (e q : List ℕ) (h : a ≤ length l) (k : length e ≡ n) (g : ups p ≡ e ++ q) where
+  words : ups (take a l ++ (p ++ t)) ≡ take a (ups l) ++ ((e ++ q) ++ ups t)
+  words = rw (ups-append (take a l) (p ++ t), ups-append p t, ups-take a l, g)
+
+  long : length (take a (ups l)) ≡ a
+  long = length-take-le a (ups l) (omega (arith, length-ups l))
+
+  pub laid-at : column a n (take a l ++ (p ++ t)) ≡ e
+  laid-at =
+      ext-getD 0 (column a n (take a l ++ (p ++ t))) e (length-column a n (take a l ++ (p ++ t)) ∙ sym k) (λ i m. at i (omega (arith, length-column a n (take a l ++ (p ++ t)))))
+    where
+      at : (i : ℕ) → i < n → getD (column a n (take a l ++ (p ++ t))) i 0 ≡ getD e i 0
+      at i m =
+          let z = getD-append-add (take a (ups l)) ((e ++ q) ++ ups t) i 0 in
+          sym (column-at a n (take a l ++ (p ++ t)) i (getD (ups (take a l ++ (p ++ t))) (a + i) 0) m refl) ∙ ap (λ (w : List ℕ). getD w (a + i) 0) words ∙ rw long at z ∙ List·getD-append (e ++ q) (ups t) 0 i (omega (arith, length-append e q)) ∙ List·getD-append e q 0 i (omega arith)
+
+  pub laid-before : Before a l (take a l ++ (p ++ t))
+  laid-before =
+      record { same = λ j m. ap (λ (w : List ℕ). getD w j 0) words ∙ List·getD-append (take a (ups l)) ((e ++ q) ++ ups t) 0 j (omega (arith, long)) ∙ getD-take a (ups l) j 0 m }
+
+pub before-column : (a b n : ℕ) (o o′ : List ℤ) → Before a o o′ → b + n ≤ a → column b n o′ ≡ column b n o
+before-column a b n o o′ e h = column-same b n o o′ (λ i l. e .same (b + i) (omega arith))
+
+pub padded-by : (rows : List ℕ) (n : ℕ) (l0 l1 l2 l3 l4 : List ℤ) → n ≤ 64 → (column 0 n l1 ≡ edges rows BOX 1 false n) × Before 0 l0 l1 → (column 64 n l2 ≡ edges rows BOX 2 false n) × Before 64 l1 l2 → (column 128 n l3 ≡ edges rows BOX 3 true n) × Before 128 l2 l3 → (column 192 n l4 ≡ edges rows BOX 4 true n) × Before 192 l3 l4 → boxes-of l4 n ≡ padded-boxes rows n
 unfolding padded-boxes
-padded-by rows n bx by ex ey p q s t a b c d =
-    rw (part-by n bx (edges rows BOX 1 false n) p (length-edges rows BOX 1 false n) a, part-by n by (edges rows BOX 2 false n) q (length-edges rows BOX 2 false n) b, part-by n ex (edges rows BOX 3 true n) s (length-edges rows BOX 3 true n) c, part-by n ey (edges rows BOX 4 true n) t (length-edges rows BOX 4 true n) d)
+padded-by rows n l0 l1 l2 l3 l4 h a b c d =
+    let x = before-column 192 0 n l3 l4 (d .1) (omega arith) ∙ before-column 128 0 n l2 l3 (c .1) (omega arith) ∙ before-column 64 0 n l1 l2 (b .1) (omega arith) ∙ a .0 in
+    let y = before-column 192 64 n l3 l4 (d .1) (omega arith) ∙ before-column 128 64 n l2 l3 (c .1) (omega arith) ∙ b .0 in
+    let z = before-column 192 128 n l3 l4 (d .1) (omega arith) ∙ c .0 in
+    rw (x, y, z, d .0)
 
-pub laid-words : (n m : ℕ) (d p t l : List ℕ) → n ≤ length d → m ≤ length p → take m p ≡ l → take (n + m) (take n d ++ (p ++ t)) ≡ take n d ++ l
-laid-words n m d p t l h k e =
-    rw (length-take-le n d h) at (take-append-add (take n d) (p ++ t) m) ∙ rw (take-append-le m p t k, e)
+-- ---- from `from` to before i there is z, and before that all is as it was
 
-pub laid-steps : (n m : ℕ) (c p t : List ℤ) (l : List ℕ) → n ≤ length c → m ≤ length p → take m (ups p) ≡ l → take (n + m) (ups (take n c ++ (p ++ t))) ≡ take n (ups c) ++ l
-laid-steps n m c p t l h k e =
-    rw (ups-append (take n c) (p ++ t), ups-append p t, ups-take n c) (laid-words n m (ups c) (ups p) (ups t) l (omega (arith, length-ups c)) (omega (arith, length-ups p)) e)
+pub same-begin : (z b from : ℕ) (l : List ℤ) → column b from l ≡ column b from l ++ replicate (from - from) z
+same-begin z b from l = let e : from - from ≡ 0 = omega arith in rw e (sym (append-nil (column b from l)))
 
--- from `from` to before i there is z, and before that all is as it was
-pub same-begin : (z from : ℕ) (l : List ℕ) → take from l ≡ take from l ++ replicate (from - from) z
-same-begin z from l = let e : from - from ≡ 0 = omega arith in rw e (sym (append-nil (take from l)))
+module _ (z b : ℕ) (l₀ l l′ : List ℤ) (from i : ℕ) (h : from ≤ i) (lt : b + i < length l) (s : ups l′ ≡ set (ups l) (b + i) z) where
+  earlier : column b i l′ ≡ column b i l
+  unfolding column
+  earlier = rw s (beyond i (ups l) (b + i) z b (omega arith))
 
-pub same-on : (z : ℕ) (l₀ l : List ℕ) (from i : ℕ) → from ≤ i → i < length l → take i l ≡ take from l₀ ++ replicate (i - from) z → take (i + 1) (set l i z) ≡ take from l₀ ++ replicate (i + 1 - from) z
-same-on z l₀ l from i h lt e =
-    let q : i + 1 - from ≡ i - from + 1 = omega arith in
-    rw (q, ← replicate-append-replicate (i - from) 1 z, ← append-assoc (take from l₀) (replicate (i - from) z) (replicate 1 z), ← e, add-one i) (take-suc-set l i z lt)
+  last : getD (ups l′) (b + i) 0 ≡ z
+  last = rw s (getD-set-same (ups l) (b + i) z 0 (omega (arith, length-ups l)))
+
+  pub same-on : column b i l ≡ column b from l₀ ++ replicate (i - from) z → column b (i + 1) l′ ≡ column b from l₀ ++ replicate (i + 1 - from) z
+  same-on e =
+      let q : i + 1 - from ≡ i - from + 1 = omega arith in
+      rw (q, ← replicate-append-replicate (i - from) 1 z, ← append-assoc (column b from l₀) (replicate (i - from) z) (replicate 1 z), ← e, column-more b i l′, earlier, last)
+
+  pub before-on : Before b l₀ l → Before b l₀ l′
+  before-on w = record { same = λ j m. rw s (getD-set-other (ups l) (b + i) j z 0 (λ y. omega arith) ∙ w .same j m) }
+
+pub before-refl : (b : ℕ) (l : List ℤ) → Before b l l
+before-refl b l = record { same = λ j m. refl }
 
 -- ---- the first n anchors
 
-pub held-part : (n : ℕ) (cx cy : List ℤ) (dirs own : List ℕ) → Anchored cx cy dirs own n → Anchored (take n cx) (take n cy) (take n dirs) (take n own) n
-held-part n cx cy dirs own a =
-    record { xs-held = omega (arith, length-take-le n cx (a .xs-held)); ys-held = omega (arith, length-take-le n cy (a .ys-held)); dirs-held = omega (arith, length-take-le n dirs (a .dirs-held)); boxes-held = omega (arith, length-take-le n own (a .boxes-held)) }
-
-pub anchors-part : (n : ℕ) (cx cy : List ℤ) (dirs own : List ℕ) (e : ℕ) → Anchored cx cy dirs own n → anchors (take n cx) (take n cy) (take n dirs) (take n own) e n ≡ anchors-of e (columns n cx cy dirs own)
-anchors-part n cx cy dirs own e a =
-    let k : length (take n (ups cx)) ≡ n = length-take-le n (ups cx) (omega (arith, length-ups cx, a .xs-held)) in
-    rw (ups-take n cx, ups-take n cy, k)
-
-pub fewer-held : {cx cy : List ℤ} {dirs own : List ℕ} {m n : ℕ} → Anchored cx cy dirs own n → m ≤ n → Anchored cx cy dirs own m
-fewer-held a h = record { xs-held = omega (arith, a .xs-held); ys-held = omega (arith, a .ys-held); dirs-held = omega (arith, a .dirs-held); boxes-held = omega (arith, a .boxes-held) }
+pub anchors-part : (n : ℕ) (l : List ℤ) (e : ℕ) → anchors l e n ≡ anchors-of e (columns n l)
+anchors-part n l e = rw (length-column 0 n l)
 
 -- ---- the padded edges
 
@@ -95,33 +118,26 @@ pub edges-bounded : (rows : List ℕ) (width field : ℕ) (high : Bool) (n : ℕ
 edges-bounded rows width field high n f =
     record { least = λ k h. rw (edges-at rows width field high n k h) (padded-between high _ (f .least k h) (f .greatest k h) .0); greatest = λ k h. rw (edges-at rows width field high n k h) (padded-between high _ (f .least k h) (f .greatest k h) .1) }
 
-module _ (rows : List ℕ) (n : ℕ) (bx by ex ey : List ℤ) (e : boxes-of bx by ex ey n ≡ padded-boxes rows n) where
-  min-x-is : ups bx ≡ edges rows BOX 1 false n
+module _ (rows : List ℕ) (n : ℕ) (l : List ℤ) (e : boxes-of l n ≡ padded-boxes rows n) where
+  min-x-is : column 0 n l ≡ edges rows BOX 1 false n
   unfolding padded-boxes
   min-x-is = ap (λ (b : Boxes). b .min-x) e
 
-  min-y-is : ups by ≡ edges rows BOX 2 false n
+  min-y-is : column 64 n l ≡ edges rows BOX 2 false n
   unfolding padded-boxes
   min-y-is = ap (λ (b : Boxes). b .min-y) e
 
-  max-x-is : ups ex ≡ edges rows BOX 3 true n
+  max-x-is : column 128 n l ≡ edges rows BOX 3 true n
   unfolding padded-boxes
   max-x-is = ap (λ (b : Boxes). b .max-x) e
 
-  max-y-is : ups ey ≡ edges rows BOX 4 true n
+  max-y-is : column 192 n l ≡ edges rows BOX 4 true n
   unfolding padded-boxes
   max-y-is = ap (λ (b : Boxes). b .max-y) e
 
-  inside : (l : List ℤ) (field : ℕ) (high : Bool) → ups l ≡ edges rows BOX field high n → Fields rows BOX field n → Inside n (ups l)
-  inside l field high q f = rw q (padded-inside n (edges rows BOX field high n) (edges-bounded rows BOX field high n f))
+  inside : (w : List ℕ) (field : ℕ) (high : Bool) → w ≡ edges rows BOX field high n → Fields rows BOX field n → Inside n w
+  inside w field high q f = rw q (padded-inside n (edges rows BOX field high n) (edges-bounded rows BOX field high n f))
 
-  there : (l : List ℤ) (field : ℕ) (high : Bool) → ups l ≡ edges rows BOX field high n → n ≤ length l
-  there l field high q = omega (arith, length-ups l, ap length q, length-edges rows BOX field high n)
-
-  pub within-padded : n ≤ BOXES → Edged rows n → Within n bx by ex ey
-  within-padded h f =
-      record { few = h; held = record { low-held = there bx 1 false min-x-is; high-held = there by 2 false min-y-is; from-held = there ex 3 true max-x-is; to-held = there ey 4 true max-y-is }; min-x-inside = inside bx 1 false min-x-is (f .least-x); min-y-inside = inside by 2 false min-y-is (f .least-y); max-x-inside = inside ex 3 true max-x-is (f .greatest-x); max-y-inside = inside ey 4 true max-y-is (f .greatest-y) }
-
-pub boxes-room : {n : ℕ} {bx by ex ey cx cy : List ℤ} {dirs own table : List ℕ} {ax ay : List ℤ} → Scratch bx by ex ey cx cy dirs own table ax ay → n ≤ BOXES → Held n bx by ex ey
-boxes-room s h =
-    record { low-held = omega (arith, s .min-x-room); high-held = omega (arith, s .min-y-room); from-held = omega (arith, s .max-x-room); to-held = omega (arith, s .max-y-room) }
+  pub within-padded : n ≤ BOXES → 256 ≤ length l → Edged rows n → Within n l
+  within-padded h r f =
+      record { few = h; held = r; inside = record { min-x-inside = inside (column 0 n l) 1 false min-x-is (f .least-x); min-y-inside = inside (column 64 n l) 2 false min-y-is (f .least-y); max-x-inside = inside (column 128 n l) 3 true max-x-is (f .greatest-x); max-y-inside = inside (column 192 n l) 4 true max-y-is (f .greatest-y) } }

@@ -1,21 +1,26 @@
 -- The graph of a page that is not crowded, about the definitions.
 --     page-sound    it is what a search asks, explicit anchors are explicit nodes, pruning keeps what it should
---     page-made, page-nodes, answer-crowded    a count over 4,096 says that the page is crowded, any other that the lists hold its graph
-use mathlib.Core.Path.{_≡_, refl}
+--     told-crowded, told-made, told-nodes    either it is told that the page is crowded, or the list holds its graph
+use mathlib.Core.Path.{_≡_, refl, sym, _∙_}
 use mathlib.Core.Bool.{Bool, true, false, cond, _||_}
+use mathlib.Core.List.{List}
 use Prim.Native.Nat.{ℕ, _<_, _≤_}
 use native.Mathlib.Omega.{arith}
 use borrow.Author.Tests.{ltb-false}
+use lib.IntN.{ℤ}
 use lib.ListN.{length, getD, length-append, List·getD-append}
 use Rattle.fixed.proofs.Bools.{clash}
 use Rattle.corridors.specs.Sizes.{ANCHORS}
 use Rattle.nodes.specs.Graph.{Graph, NODES}
+use Rattle.nodes.specs.Columns.{graph}
 use Rattle.anchors.specs.Records.{Records}
 use Rattle.anchors.specs.Explicit.{explicit}
 use Rattle.graph.specs.Build.{whole, made}
 use Rattle.graph.proofs.Theorem.{made-wf, made-keeps, made-explicit}
-use Rattle.page_graph.specs.Page.{CROWDED, implicit, then-implicit, all-anchors, overfull, boxes-of-page, anchors-of-page, crowded, page-graph, number}
+use Rattle.page_graph.specs.Page.{implicit, then-implicit, all-anchors, overfull, boxes-of-page, anchors-of-page, crowded, page-graph, graphed}
 use Rattle.page_graph.specs.Lent.{Answered}
+use Rattle.page_graph.specs.declared.Graphed.{Graphed}
+use Rattle.page_graph.specs.declared.Graphed.the-variants.{Crowded, Nodes}
 use Rattle.page_graph.specs.Claims.{PageSound}
 use Rattle.page_graph.proofs.Explicits.{explicit-even}
 
@@ -58,25 +63,30 @@ page-sound r pruned e =
     let f = page-few r e .nodes-few in
     record { wf = made-wf (boxes-of-page r) (anchors-of-page r) pruned f; explicit-there = λ k h. rw (← anchor-x r k h, ← anchor-y r k h) (made-explicit (boxes-of-page r) (anchors-of-page r) pruned f k (anchor-in r k h) (anchor-explicit r k h)); keeps = made-keeps (boxes-of-page r) (anchors-of-page r) pruned f }
 
--- ---- what a count says
+-- ---- what is told
 
-module _ {n : ℕ} {v : Graph} {full : Bool} {g : Graph} (a : Answered n v full g) where
-  pub page-made : n ≤ NODES → full ≡ false
-  unfolding number
-  page-made h = by full (a .count)
+module _ {t : Graphed} {l : List ℤ} {full : Bool} {g : Graph} (a : Answered t l full g) where
+  pub told-crowded : t ≡ Crowded → full ≡ true
+  unfolding graphed
+  told-crowded e = by full refl (sym e ∙ a .is)
     where
-      by : (t : Bool) → n ≡ cond t CROWDED (g .count) → t ≡ false
-      by true e = absurd (omega arith)
-      by false e = refl
+      by : (f : Bool) → full ≡ f → Crowded ≡ cond f Crowded (Nodes (g .count)) → full ≡ true
+      by true q z = q
+      by false q z = let y : _≡_ {A = ℕ} 0 1 = cc in absurd (omega arith)
 
-  -- the lists hold the graph
-  pub page-nodes : n ≤ NODES → v ≡ g
-  page-nodes h = a .same (page-made h)
+  pub told-made : (n : ℕ) → t ≡ Nodes n → full ≡ false
+  unfolding graphed
+  told-made n e = by full refl (sym e ∙ a .is)
+    where
+      by : (f : Bool) → full ≡ f → Nodes n ≡ cond f Crowded (Nodes (g .count)) → full ≡ false
+      by true q z = let y : _≡_ {A = ℕ} 0 1 = cc in absurd (omega arith)
+      by false q z = q
 
-pub answer-crowded : (r : Records) (pruned : Bool) {n : ℕ} {v : Graph} → Answered n v (crowded r) (page-graph r pruned) → NODES < n → crowded r ≡ true
-unfolding number
-answer-crowded r pruned {n} a h = by (crowded r) refl (a .count)
-  where
-    by : (t : Bool) → crowded r ≡ t → n ≡ cond t CROWDED (page-graph r pruned .count) → crowded r ≡ true
-    by true e c = e
-    by false e c = absurd (omega (arith, page-sound r pruned e .wf .few))
+  -- the list holds the graph
+  pub told-nodes : (n : ℕ) → t ≡ Nodes n → graph n l ≡ g
+  unfolding graphed
+  told-nodes n e =
+      let f = told-made n e in
+      let z : Nodes n ≡ Nodes (g .count) = rw f at (sym e ∙ a .is) in
+      let k : n ≡ g .count = cc in
+      rw k (a .same f)

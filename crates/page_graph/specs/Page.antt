@@ -13,6 +13,8 @@ use Rattle.scan.specs.Scan.{Anchors}
 use Rattle.anchors.specs.Records.{BOX, Records}
 use Rattle.anchors.specs.Explicit.{Columns, explicit}
 use Rattle.graph.specs.Build.{Boxes, whole, made}
+use Rattle.page_graph.specs.declared.Graphed.{Graphed}
+use Rattle.page_graph.specs.declared.Graphed.the-variants.{Crowded, Nodes}
 
 -- 'a box is padded by 10 units': the n rows of boxes, their least edges down and their greatest ones up
 unfoldable pub padded-boxes : List ℕ → ℕ → Boxes
@@ -56,9 +58,6 @@ page-graph r pruned = made (boxes-of-page r) (anchors-of-page r) pruned
 
 -- ---- what is handed back
 
--- the count that says that the page is crowded
-abbrev pub CROWDED : ℕ
-CROWDED = 4097
-
-unfoldable pub number : Bool → Graph → ℕ
-number full g = cond full CROWDED (g .count)
+-- that the page is crowded, or how many nodes its graph has
+unfoldable pub graphed : Bool → Graph → Graphed
+graphed full g = cond full Crowded (Nodes (g .count))

@@ -10,7 +10,7 @@ use Rattle.fixed.specs.Up.{BIAS}
 use Rattle.sightline.specs.Count.{any, run}
 use Rattle.sightline.specs.Sight.{stops, box-stops, blocked, clear-after, clear-before}
 use Rattle.axis.specs.Axis.{rank, index, holds, insert, inserts}
-use Rattle.nodes.specs.Graph.{NODES, stands, seek, find, remark, push, place, linked, link}
+use Rattle.nodes.specs.Graph.{NODES, stands, seek, find, mark-as, remark, push, place, linked, link}
 use Rattle.scan.specs.Walk.{along, find-on, place-on, next, step, walk, reach, scan}
 use Rattle.scan.specs.Scan.{fold, has, toward, scans, scan-anchor, mark, place-anchor, scan-at, build-nodes, build}
 use Rattle.graph.specs.Build.{whole}
@@ -23,7 +23,7 @@ use Rattle.page_laws.proofs.Connect.{connect}
 use Rattle.page_laws.proofs.Ranges.{made-ground, blank-page}
 
 three-nodes : whole no-boxes three .count ≡ 3
-unfolding any run stops box-stops blocked clear-after clear-before rank index holds insert inserts stands seek find remark push place linked link along find-on place-on next step walk reach scan fold has toward scans scan-anchor mark place-anchor scan-at build-nodes build whole
+unfolding any run stops box-stops blocked clear-after clear-before rank index holds insert inserts stands seek find mark-as remark push place linked link along find-on place-on next step walk reach scan fold has toward scans scan-anchor mark place-anchor scan-at build-nodes build whole
 three-nodes = refl
 
 along-row : (k : ℕ) → k < 3 → (at 0 ≤ getD (three .xs) k 0) × (getD (three .xs) k 0 ≤ at 20)

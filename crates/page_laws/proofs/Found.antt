@@ -20,8 +20,8 @@ use Rattle.path_finding.specs.Places.{node-at, known, start-of, ends-of, ends-k
 use Rattle.path_finding.proofs.Lines.{table-length, table-at, is-line-below}
 use Rattle.path_finding.proofs.Laws.{kind-end}
 use Rattle.path_finding.proofs.Theorems.{right}
-use Rattle.wire.specs.Lines.{Line}
-use Rattle.net.specs.Nets.{lineOf, foundLine}
+use Rattle.wire.specs.Lines.{Line, lineOf}
+use Rattle.net.specs.Nets.{foundLine}
 use Rattle.net_laws.specs.Laid.{Drawn, Leads, Reaches}
 
 -- ---- the first and the last node of a way
@@ -50,7 +50,6 @@ module _ (G : Graph) (l : List ℕ) (below : Below (G .count) l) where
   node-place cs i h = table-at (place-at cs l) (length l) i h ∙ rw (lt-ltb i (length l) h)
 
   drawn : Drawn (Place G) (lineOf G l)
-  unfolding lineOf
   drawn =
       record {
         last = λ h e. last h e;
@@ -122,7 +121,7 @@ module _ (G : Graph) (w : Ready G) (x y : ℕ) (exs eys : List ℕ) where
   Right l = 0 < length l → (getD (lineOf G l .x) 0 0 ≡ x) × (getD (lineOf G l .y) 0 0 ≡ y) × Ending (lineOf G l) exs eys
 
   form-right : {l : List ℕ} → Form l → Right l
-  unfolding lineOf find node-at
+  unfolding find node-at
   form-right nothing s = absurd (omega arith)
   form-right (something h f) s =
       let l = line G es a in
@@ -161,5 +160,5 @@ module _ (G : Graph) (w : Ready G) (x y : ℕ) (exs eys : List ℕ) where
   found-drawn = drawn G (line-between G x y exs eys) (form-below form)
 
   pub found-right : 0 < foundLine G x y exs eys .count → (getD (foundLine G x y exs eys .x) 0 0 ≡ x) × (getD (foundLine G x y exs eys .y) 0 0 ≡ y) × Ending (foundLine G x y exs eys) exs eys
-  unfolding foundLine lineOf
+  unfolding foundLine
   found-right s = form-right form s

@@ -1,21 +1,27 @@
 -- The search on the graph that is handed back is the search on the page.
-use mathlib.Core.Path.{_≡_, refl, sym, _∙_}
+--     searchable, page-searched    by what is told of the graph
+use mathlib.Core.Path.{_≡_, refl, sym, ap, _∙_}
 use mathlib.Core.Bool.{Bool, true, false}
 use mathlib.Core.List.{List, []}
 use Prim.Native.Nat.{ℕ, zero, suc, _+_, _<_, _≤_}
 use native.Mathlib.Omega.{arith}
 use borrow.Author.Tests.{le-ltb}
-use lib.ListN.{length, getD}
+use lib.IntN.{ℤ}
+use lib.ListN.{length}
 use Rattle.fixed.specs.Up.{BIAS}
-use Rattle.nodes.specs.Graph.{Graph, NODES}
-use Rattle.astar.specs.Reached.{LIMIT, Ready}
+use Rattle.nodes.specs.Graph.{Graph}
+use Rattle.nodes.specs.Columns.{GRAPH-WORDS, graph}
+use Rattle.astar.specs.Reached.{Ready}
 use Rattle.path_finding.specs.Line.{table, place-at, direction-at, Written}
 use Rattle.anchors.specs.Records.{Records}
-use Rattle.page_graph.specs.Page.{crowded, page-graph, number}
-use Rattle.page_graph.proofs.Theorem.{page-sound, page-made}
-use Rattle.page_graph.specs.Lent.{Asked, Answered}
+use Rattle.page_graph.specs.Page.{crowded, page-graph, graphed}
+use Rattle.page_graph.specs.declared.Graphed.{Graphed}
+use Rattle.page_graph.specs.declared.Graphed.the-variants.{Crowded, Nodes}
+use Rattle.page_graph.proofs.Theorem.{told-made, told-nodes}
+use Rattle.page_graph.specs.Lent.{Answered}
+use Rattle.search.specs.Searched.{Searched}
 use Rattle.page_search.specs.Page.{searchNumber, searchLine, PageSearched}
-use Rattle.page_search.specs.Lent.{Tried}
+use Rattle.page_search.specs.Lent.{Tried, Searchable}
 use Rattle.page_search.specs.Exists.{Sound}
 use Rattle.page_search.proofs.Ready.{page-ready}
 
@@ -43,37 +49,37 @@ written-none cx cy ls dx dy ms a b c d w =
       direction-is = w .direction-is ∙ table-same (direction-at ls []) (direction-at ms []) (λ k. no-way ls k ∙ sym (no-way ms k)) (length d);
     }
 
--- ---- the lent lists hold the graph
+-- ---- the lent list holds the graph
 
-module _ (r : Records) (s : Sound r) (pruned : Bool) (n : ℕ) (H : Graph) (a : Answered n H (crowded r) (page-graph r pruned)) where
+module _ (r : Records) (s : Sound r) (pruned : Bool) (g : Graphed) (l : List ℤ) (a : Answered g l (crowded r) (page-graph r pruned)) where
   abbrev G : Graph
   G = page-graph r pruned
 
-  count-is : crowded r ≡ false → n ≡ G .count
-  unfolding number
-  count-is e = rw e at (a .count)
+  ready : (n : ℕ) → g ≡ Nodes n → 0 < n → Ready (graph n l)
+  ready n h p =
+      let e = told-nodes a n h in
+      let c : n ≡ G .count = ap (λ (w : Graph). w .count) e in
+      rw e (page-ready r s (told-made a n h) pruned (omega (arith, c)))
 
-  over : crowded r ≡ true → NODES < n
-  unfolding number
-  over e = omega (arith, rw e at (a .count))
+  pub searchable : GRAPH-WORDS ≤ length l → Searchable g l
+  searchable h = record { room = h; ready = ready }
 
-  under : crowded r ≡ false → n ≤ NODES
-  under e = omega (arith, count-is e, page-sound r pruned e .wf .few)
-
-  pub ready : n ≤ NODES → 0 < n → Ready H
-  ready h p = let e = page-made a h in rw (a .same e) (page-ready r s e pruned (omega (arith, count-is e)))
-
-  pub page-searched : (x y : ℕ) (exs eys : List ℕ) (num nodes : ℕ) (lx ly kinds dirs : List ℕ) → Tried n H x y exs eys num nodes lx ly kinds dirs → PageSearched r pruned x y exs eys num nodes lx ly kinds dirs
-  unfolding searchNumber searchLine
+  pub page-searched : (x y : ℕ) (exs eys : List ℕ) (num nodes : ℕ) (lx ly kinds dirs : List ℕ) → Tried g l x y exs eys num nodes lx ly kinds dirs → PageSearched r pruned x y exs eys num nodes lx ly kinds dirs
+  unfolding searchNumber searchLine graphed
   page-searched x y exs eys num nodes lx ly kinds dirs t = go (crowded r) refl
     where
       go : (b : Bool) → crowded r ≡ b → PageSearched r pruned x y exs eys num nodes lx ly kinds dirs
       go true e =
-          let f = t .full (over e) in
+          let f = t .full (rw e at (a .is)) in
           record { number-is = rw e (f .0); nodes-is = rw e (f .1); written = rw e (written-none [] [] [] (G .xs) (G .ys) (G .links) lx ly kinds dirs (f .2)) }
       go false e =
-          let f = rw (a .same e) at (t .fits (under e)) in
+          let f = rw (a .same e) at (t .fits (G .count) (rw e at (a .is))) in
           record { number-is = rw e (f .number-is); nodes-is = rw e (f .nodes-is); written = rw e (f .written) }
 
-pub sound-of : {r : Records} → Asked r → ((k : ℕ) → getD (r .ports) k 0 < LIMIT) → ((k : ℕ) → getD (r .ends) k 0 < LIMIT) → Sound r
-sound-of a p e = record { rows = a; port-words = p; end-words = e }
+-- ---- what is told of a graph decides which of the two it is
+
+pub not-both : {n : ℕ} {g : Graphed} → g ≡ Crowded → g ≡ Nodes n → ⊥
+not-both e f = let z : _≡_ {A = ℕ} 0 1 = cc in omega arith
+
+pub the-search : {n m : ℕ} {g : Graphed} (l : List ℤ) {x y num nodes : ℕ} {exs eys lx ly kinds dirs : List ℕ} → g ≡ Nodes n → g ≡ Nodes m → Searched (graph n l) x y exs eys num nodes lx ly kinds dirs → Searched (graph m l) x y exs eys num nodes lx ly kinds dirs
+the-search {n} {m} l e f s = let k : m ≡ n = cc in rw k s

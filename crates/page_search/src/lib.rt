@@ -1,25 +1,20 @@
+use page_graph::Graphed;
 use path_finding::Answer;
 
-// A search on a page, from its records.
+// A search on a page's graph.
 ghost use mathlib.Core.Path.{_≡_};
 ghost use Prim.Native.Nat.{_≤_, _<_};
 ghost use lib.ListN.{length};
+ghost use Rattle.fixed.specs.Seen.{old, new};
 ghost use Rattle.fixed.specs.Up.{ups};
-ghost use Rattle.nodes.specs.Graph.{NODES};
 ghost use Rattle.astar.specs.Reached.{Ready};
-ghost use Rattle.nodes.specs.Lent.{graph};
-ghost use Rattle.anchors.specs.Records.{records};
-ghost use Rattle.search.specs.Searched.{Ended};
-ghost use Rattle.page_graph.specs.Lent.{Asked};
-ghost use Rattle.page_search.specs.Page.{PageSearched};
-ghost use Rattle.page_search.specs.Lent.{Tried};
+ghost use Rattle.nodes.specs.Columns.{GRAPH-WORDS, graph, graphIn};
+ghost use Rattle.search.specs.Searched.{Searched, Ended};
+ghost use Rattle.page_search.specs.Lent.{Tried, Searchable};
 
-// The search on a graph that was handed back with the count n: 8 if that says that the page is crowded.
+// The search on a graph of n nodes. The scratch is made here.
 fn find_on(
-    xs: &[i32],
-    ys: &[i32],
-    links: &[u32],
-    marks: &[u32],
+    nodes: &[i32],
     n: usize,
     x: u32,
     y: u32,
@@ -30,69 +25,37 @@ fn find_on(
     kinds: &mut [u8],
     dirs: &mut [u8],
 ) -> Answer
-    requires { ⌜ (n ≤ NODES → 0 < n → Ready (graph n (now xs) (now ys) (now links) (now marks))) ⌝ }
+    requires { ⌜ (0 < n → Ready (graph n (now nodes))) × (GRAPH-WORDS ≤ length (now nodes)) ⌝ }
     requires { ⌜ Ended (now ex) (now ey) ⌝ }
-    ensures { λ r. ⌜ Tried n (graph n (now (xs .entry)) (now (ys .entry)) (now (links .entry)) (now (marks .entry))) x y (ups (now (ex .entry))) (ups (now (ey .entry))) (r .number) (r .nodes) (ups (now (lx .exit))) (ups (now (ly .exit))) (now (kinds .exit)) (now (dirs .exit)) ⌝ }
+    ensures { λ r. ⌜ Searched (graphIn n nodes) x y (ups (old ex)) (ups (old ey)) (r .number) (r .nodes) (ups (new lx)) (ups (new ly)) (new kinds) (new dirs) ⌝ }
 {
-    if nodes::NODES < n {
-        let line: [u32; 1] = [0; 1];
-        path_finding::write_line(xs, ys, links, 0, &line[..0], lx, ly, kinds, dirs);
-        return Answer {
-            number: 8,
-            nodes: 0,
-        };
+    if n <= path_finding::SMALL {
+        if ex.len() <= path_finding::SMALL {
+            let mut cells: [u64; path_finding::SMALL_CELLS] = [0; path_finding::SMALL_CELLS];
+            let mut tree: [u64; path_finding::SMALL_TREE] = [0; path_finding::SMALL_TREE];
+            let mut list: [u32; path_finding::SMALL] = [0; path_finding::SMALL];
+            return search::find_path(
+                nodes,
+                n,
+                x,
+                y,
+                ex,
+                ey,
+                lx,
+                ly,
+                kinds,
+                dirs,
+                &mut cells,
+                &mut tree,
+                &mut list,
+            );
+        }
     }
-    search::find_path(xs, ys, links, marks, n, x, y, ex, ey, lx, ly, kinds, dirs)
-}
-
-// A search on the graph of a page's records, pruned or not. The graph is made here.
-pub fn search_rows(
-    boxes: &[u32],
-    nb: usize,
-    ports: &[u32],
-    np: usize,
-    nets: &[u32],
-    nn: usize,
-    ends: &[u32],
-    ne: usize,
-    pruned: bool,
-    x: u32,
-    y: u32,
-    ex: &[i32],
-    ey: &[i32],
-    lx: &mut [i32],
-    ly: &mut [i32],
-    kinds: &mut [u8],
-    dirs: &mut [u8],
-) -> Answer
-    requires { ⌜ Asked (records (now boxes) nb (now ports) np (now nets) nn (now ends) ne) ⌝ }
-    requires { ⌜ Ended (now ex) (now ey) ⌝ }
-    ensures { λ r. ⌜ PageSearched (records (now (boxes .entry)) nb (now (ports .entry)) np (now (nets .entry)) nn (now (ends .entry)) ne) pruned x y (ups (now (ex .entry))) (ups (now (ey .entry))) (r .number) (r .nodes) (ups (now (lx .exit))) (ups (now (ly .exit))) (now (kinds .exit)) (now (dirs .exit)) ⌝ }
-{
-    let mut xs: [i32; 4096] = [0; 4096];
-    let mut ys: [i32; 4096] = [0; 4096];
-    let mut links: [u32; 16384] = [0; 16384];
-    let mut marks: [u32; 4096] = [0; 4096];
-    let n = page_graph::graph_of(
-        boxes,
-        nb,
-        ports,
-        np,
-        nets,
-        nn,
-        ends,
-        ne,
-        pruned,
-        &mut xs,
-        &mut ys,
-        &mut links,
-        &mut marks,
-    );
-    find_on(
-        &xs,
-        &ys,
-        &links,
-        &marks,
+    let mut cells: [u64; path_finding::CELLS] = [0; path_finding::CELLS];
+    let mut tree: [u64; path_finding::TREE] = [0; path_finding::TREE];
+    let mut list: [u32; nodes::NODES] = [0; nodes::NODES];
+    search::find_path(
+        nodes,
         n,
         x,
         y,
@@ -102,5 +65,38 @@ pub fn search_rows(
         ly,
         kinds,
         dirs,
+        &mut cells,
+        &mut tree,
+        &mut list,
     )
+}
+
+// The search on a page of which that is told: 8 and no line if it is crowded.
+pub fn search_on(
+    nodes: &[i32],
+    g: Graphed,
+    x: u32,
+    y: u32,
+    ex: &[i32],
+    ey: &[i32],
+    lx: &mut [i32],
+    ly: &mut [i32],
+    kinds: &mut [u8],
+    dirs: &mut [u8],
+) -> Answer
+    requires { ⌜ Searchable g (now nodes) ⌝ }
+    requires { ⌜ Ended (now ex) (now ey) ⌝ }
+    ensures { λ r. ⌜ Tried g (old nodes) x y (ups (old ex)) (ups (old ey)) (r .number) (r .nodes) (ups (new lx)) (ups (new ly)) (new kinds) (new dirs) ⌝ }
+{
+    match g {
+        Graphed::Crowded => {
+            let line: [u32; 1] = [0; 1];
+            path_finding::write_line(nodes, 0, &line[..0], lx, ly, kinds, dirs);
+            Answer {
+                number: 8,
+                nodes: 0,
+            }
+        }
+        Graphed::Nodes(n) => find_on(nodes, n, x, y, ex, ey, lx, ly, kinds, dirs),
+    }
 }

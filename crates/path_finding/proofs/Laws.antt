@@ -6,7 +6,7 @@ use mathlib.Core.Bool.{Bool, true, false, cond, not, _&&_, _||_}
 use native.Mathlib.Numerals.{add-one}
 use native.Mathlib.Omega.{arith}
 use lib.IntN.{ℤ}
-use lib.ListN.{length, getD, set, take, drop, length-set, replicate, length-replicate, getD-replicate}
+use lib.ListN.{length, getD, set, take, drop, length-set, length-take, replicate, length-replicate, getD-replicate}
 use lib.Seq.{getD-take, take-suc-set, getD-set-same, getD-set-other}
 use lib.Dec.{ltb, eqb}
 use borrow.Author.Tests.{lt-ltb, le-ltb, eq-eqb, ne-eqb}
@@ -16,7 +16,13 @@ use Rattle.fixed.proofs.Lists.{length-ups}
 use Rattle.nodes.specs.Graph.{Graph, none, seek}
 use Rattle.nodes.proofs.Nodes.{seek-take, seek-le}
 use Rattle.astar.specs.Reached.{Below}
-use Rattle.astar.specs.Scratch.{Marked}
+use Rattle.columns.specs.Columns.{column, Only}
+use Rattle.columns.proofs.Laws.{only-refl, only-then, column-first}
+use Rattle.queue.specs.Queue.{NODES, UNSET}
+use Rattle.queue.specs.Columns.{WIDTH, SUM, sums}
+use Rattle.queue.proofs.Tournament.{empty-indexed}
+use Rattle.astar.specs.Scratch.{SCORE, ESTIMATE, PRED, MARK, scores, estimates, preds, marked, Marked}
+use Rattle.path_finding.specs.Lent.{Blank, Behind}
 use Rattle.astar.specs.Search.{holds, toward}
 use Rattle.path_finding.specs.Places.{node-at, known}
 use Rattle.path_finding.specs.Line.{START, NORMAL, END, has-link, admit, goals, table, place-at, kind-at, bit, direction-at, before, kept-at, pruned}
@@ -176,11 +182,11 @@ module _ (ls gs : List ℕ) (e : ℕ) where
   unfolding admit
   admit-new h k = rw (h, k)
 
-pub marked-more : (n : ℕ) (gs m : List ℕ) (e : ℕ) → Marked n gs m → e < n → Marked n (gs ++ (e ∷ [])) (set m e 1)
-marked-more n gs m e M en = record { long = simp length-set (M .long); each = λ v vn. by v vn (ℕ-discrete v e) }
+pub marked-more : (n : ℕ) (gs m : List ℕ) (e : ℕ) → length m ≡ n → Marked n gs m → e < n → Marked n (gs ++ (e ∷ [])) (set m e 1)
+marked-more n gs m e long M en = record { each = λ v vn. by v vn (ℕ-discrete v e) }
   where
     by : (v : ℕ) → v < n → Dec (v ≡ e) → getD (set m e 1) v 0 ≡ cond (holds v (gs ++ (e ∷ []))) 1 0
-    by v vn (yes z) = rw (z, getD-set-same m e 1 0 (omega (arith, M .long)), holds-more e gs e, eq-eqb e e refl, or-true (holds e gs))
+    by v vn (yes z) = rw (z, getD-set-same m e 1 0 (omega arith), holds-more e gs e, eq-eqb e e refl, or-true (holds e gs))
     by v vn (no z) = rw (getD-set-other m e v 1 0 z, holds-more v gs e, ne-eqb v e z, or-false (holds v gs)) (M .each v vn)
 
 pub goals-more : (ls es : List ℕ) (k : ℕ) (gs hs : List ℕ) → gs ≡ goals ls es k → hs ≡ admit ls gs (getD es k 0) → hs ≡ goals ls es (k + 1)
@@ -191,19 +197,82 @@ pub goals-begin : (ls es : List ℕ) → [] ≡ goals ls es 0
 unfolding goals
 goals-begin ls es = refl
 
-pub marks-long : {n : ℕ} {m : List ℕ} → m ≡ replicate n 0 → length m ≡ n
-marks-long {n} e = ap length e ∙ length-replicate n 0
-
 -- the end e, which is v, marked and listed behind the first m
-pub counted : (n : ℕ) (ls marked kept : List ℕ) (v e m : ℕ) → v ≡ e → m < length kept → e < n → Marked n (take m kept) marked → holds v (take m kept) ≡ false → has-link ls v ≡ true
-    → (take (m + 1) (set kept m e) ≡ admit ls (take m kept) e) × Marked n (take (m + 1) (set kept m e)) (set marked v 1)
-counted n ls marked kept v e m q room en M h l =
-    let s : take (m + 1) (set kept m e) ≡ take m kept ++ (e ∷ []) = snoc kept m e room in
-    (s ∙ admit-new ls (take m kept) e (rw q at l) (rw q at h), rw (s, q) (marked-more n (take m kept) marked e M en))
+pub counted : (n : ℕ) (ls marks list : List ℕ) (v e m : ℕ) → length marks ≡ n → v ≡ e → m < length list → e < n → Marked n (take m list) marks → holds v (take m list) ≡ false → has-link ls v ≡ true
+    → (marks′ : List ℕ) → marks′ ≡ set marks v 1 → (take (m + 1) (set list m e) ≡ admit ls (take m list) e) × Marked n (take (m + 1) (set list m e)) marks′
+counted n ls marks list v e m long q room en M h l marks′ is =
+    let s : take (m + 1) (set list m e) ≡ take m list ++ (e ∷ []) = snoc list m e room in
+    (s ∙ admit-new ls (take m list) e (rw q at l) (rw q at h), rw (s, is, q) (marked-more n (take m list) marks e long M en))
 
 pub unmarked : (n : ℕ) (m : List ℕ) → m ≡ replicate n 0 → Marked n [] m
 unfolding holds
-unmarked n m e = record { long = rw e (length-replicate n 0); each = λ v vn. rw e (getD-replicate n v 0 0 vn) }
+unmarked n m e = record { each = λ v vn. rw e (getD-replicate n v 0 0 vn) }
+
+pub behind-none : (m : ℕ) (l : List ℕ) → Behind m l l
+behind-none m l = record { same = λ j h. refl }
+
+pub behind-set : (m x : ℕ) (l : List ℕ) → Behind m l (set l m x)
+behind-set m x l = record { same = λ j h. getD-set-other l m j x 0 (λ z. omega arith) }
+
+-- the first i of k ends are looked at, and those that count stand first
+pub record Gathering (n k : ℕ) (ls list₀ cells₀ list cells : List ℕ) (m i : ℕ) : Type 0 where
+  pub inside : i ≤ k
+  pub few : m ≤ i
+  pub counts : take m list ≡ goals ls (take k list₀) i
+  pub marks : Marked n (take m list) (marked n cells)
+  pub only : Only n MARK cells₀ cells
+  pub long : length list ≡ length list₀
+  pub left : (j : ℕ) → i ≤ j → getD list j 0 ≡ getD list₀ j 0
+
+module _ (n k : ℕ) (ls list₀ cells₀ : List ℕ) where
+  pub gathering-none : marked n cells₀ ≡ replicate n 0 → Gathering n k ls list₀ cells₀ list₀ cells₀ 0 0
+  gathering-none e =
+      record { inside = omega arith; few = omega arith; counts = goals-begin ls (take k list₀); marks = unmarked n (marked n cells₀) e; only = only-refl n MARK cells₀; long = refl; left = λ j h. refl }
+
+  module _ (list cells : List ℕ) (m i : ℕ) (R : Gathering n k ls list₀ cells₀ list cells m i) (h : i < k) where
+    next-is : getD list i 0 ≡ getD (take k list₀) i 0
+    next-is = R .left i (omega arith) ∙ sym (getD-take k list₀ i 0 h)
+
+    pub gathering-in : k ≤ length list₀ → Below n (take k list₀) → getD list i 0 < n
+    gathering-in room b = rw next-is (b i (omega (arith, length-take k list₀)))
+
+    pub gathering-on : (list′ cells′ : List ℕ) (r : ℕ) → r ≤ m + 1 → take r list′ ≡ admit ls (take m list) (getD list i 0) → Marked n (take r list′) (marked n cells′) → Only n MARK cells cells′ → Behind m list list′ → length list′ ≡ length list
+        → Gathering n k ls list₀ cells₀ list′ cells′ r (i + 1)
+    gathering-on list′ cells′ r rm e M o b l =
+        record {
+          inside = omega arith;
+          few = omega (arith, R .few);
+          counts = goals-more ls (take k list₀) i (take m list) (take r list′) (R .counts) (e ∙ rw next-is);
+          marks = M;
+          only = only-then n MARK cells₀ cells cells′ (R .only) o;
+          long = l ∙ R .long;
+          left = λ j q. b .same j (omega (arith, R .few)) ∙ R .left j (omega arith);
+        }
+
+-- ---- blank cells: five columns and the tree filled
+
+module _ (n : ℕ) (some : 0 < n) (few : n ≤ NODES) (a b c d e f t t′ : List ℕ) (room : n * WIDTH ≤ length a) (tree-room : 2 * n ≤ length t)
+    (e0 : scores n b ≡ replicate n UNSET) (o0 : Only n SCORE a b) (e1 : estimates n c ≡ replicate n UNSET) (o1 : Only n ESTIMATE b c)
+    (e2 : preds n d ≡ replicate n none) (o2 : Only n PRED c d) (e3 : sums n e ≡ replicate n UNSET) (o3 : Only n SUM d e)
+    (e4 : marked n f ≡ replicate n 0) (o4 : Only n MARK e f) (et : column 0 (2 * n) t′ ≡ replicate (2 * n) UNSET) (ot : Only (2 * n) 0 t t′) where
+  sum-is : sums n f ≡ replicate n UNSET
+  sum-is = o4 .others 3 (λ z. omega (arith, z)) ∙ e3
+
+  tree-is : 2 * n ≤ length t′
+  tree-is = rw (ot .long) tree-room
+
+  pub blanked : Blank n f t′
+  blanked =
+      record {
+        room = rw (o4 .long, o3 .long, o2 .long, o1 .long, o0 .long) room;
+        score-blank =
+            o4 .others 0 (λ z. omega (arith, z)) ∙ o3 .others 0 (λ z. omega (arith, z)) ∙ o2 .others 0 (λ z. omega (arith, z)) ∙ o1 .others 0 (λ z. omega (arith, z)) ∙ e0;
+        estimate-blank = o4 .others 1 (λ z. omega (arith, z)) ∙ o3 .others 1 (λ z. omega (arith, z)) ∙ o2 .others 1 (λ z. omega (arith, z)) ∙ e1;
+        pred-blank = o4 .others 2 (λ z. omega (arith, z)) ∙ o3 .others 2 (λ z. omega (arith, z)) ∙ e2;
+        sum-blank = sum-is;
+        mark-blank = e4;
+        index = empty-indexed n (sums n f) t′ some few tree-is sum-is (sym (column-first (2 * n) t′ tree-is) ∙ et);
+      }
 
 -- ---- places looked up
 

@@ -6,8 +6,8 @@ use mathlib.Core.Bool.{Bool, true, false, cond, not, _&&_, _||_}
 use native.Mathlib.Omega.{arith}
 use native.Mathlib.Decide.{ℕ-discrete, decLt}
 use native.Mathlib.Nat.{le-of-suc-le-suc, not-suc-le-zero}
-use lib.ListN.{length, getD, take, drop, replicate, length-replicate, getD-replicate, length-append, List·getD-append}
-use lib.Seq.{getD-append-seam, getD-append-add, getD-at, ext-getD}
+use lib.ListN.{length, getD, take, drop, drop-of-length-le, replicate, length-replicate, getD-replicate, length-append, List·getD-append}
+use lib.Seq.{length-take-le, getD-append-seam, getD-append-add, getD-at, ext-getD}
 use lib.Dec.{ltb, eqb}
 use borrow.Author.Tests.{eq-eqb, ne-eqb, eqb-true, eqb-false}
 use Rattle.fixed.proofs.Bools.{clash}
@@ -18,7 +18,12 @@ use Rattle.astar.specs.declared.Found.{Found}
 use Rattle.astar.specs.declared.Found.the-variants.{Node, Nothing}
 use Rattle.astar.specs.Search.{St, chain, holds, search, found-of, line-of}
 use Rattle.astar.specs.Reached.{Ready, Below}
-use Rattle.astar.specs.Scratch.{Back, last, more, Traced}
+use Rattle.columns.specs.Columns.{Only}
+use Rattle.queue.specs.Queue.{UNSET}
+use Rattle.queue.specs.Columns.{WIDTH, sums}
+use Rattle.astar.specs.Scratch.{MARK, scores, estimates, preds, marked, Marked, Held, Back, last, more, Traced}
+use Rattle.astar.proofs.Laws.{unknown}
+use Rattle.path_finding.specs.Lent.{Blank}
 use Rattle.astar.proofs.Roads.{roads}
 use Rattle.astar.proofs.Line.{found-end, found-traced, line-none, line-traced, line-is}
 use Rattle.path_finding.specs.Line.{has-link, admit, goals, line, table, Written}
@@ -114,6 +119,34 @@ none-counts G w es a an ks m z e =
 pub is-line-below : (G : Graph) → Ready G → (es : List ℕ) (a : ℕ) → a < G .count → (l : List ℕ) → l ≡ line G es a → Below (G .count) l
 unfolding line
 is-line-below G w es a an l e = subst (λ (x : List ℕ). Below (G .count) x) (sym e) (line-below G w _ a an)
+
+-- no line, in a list
+pub nothing-behind : (l m : List ℕ) → [] ≡ m → (length l ≤ length l) × (drop (length l) l ≡ m)
+nothing-behind l m e = (omega arith, drop-of-length-le l {i = length l} (omega arith) ∙ e)
+
+-- the ends that count of the first k of a list
+pub all-goals : (ls l : List ℕ) (k : ℕ) → k ≤ length l → (gs : List ℕ) → gs ≡ goals ls (take k l) k → gs ≡ goals ls (take k l) (length (take k l))
+all-goals ls l k h gs e = e ∙ ap (goals ls (take k l)) (sym (length-take-le k l h))
+
+-- blank cells, with the ends marked
+module _ (n : ℕ) (a b t : List ℕ) (B : Blank n a t) (o : Only n MARK a b) where
+  pub lent-scores : scores n b ≡ replicate n UNSET
+  lent-scores = o .others 0 (λ z. omega (arith, z)) ∙ B .score-blank
+
+  pub lent-preds : preds n b ≡ replicate n none
+  lent-preds = o .others 2 (λ z. omega (arith, z)) ∙ B .pred-blank
+
+  pub lent-sums : sums n b ≡ replicate n UNSET
+  lent-sums = o .others 3 (λ z. omega (arith, z)) ∙ B .sum-blank
+
+  pub lent-held : (xs ys gs : List ℕ) → Marked n gs (marked n b) → Held n xs ys gs b t
+  lent-held xs ys gs M =
+      record {
+        room = rw (o .long) (B .room);
+        index = rw (o .others 3 (λ z. omega (arith, z))) (B .index);
+        known = unknown n xs ys gs (estimates n b) (o .others 1 (λ z. omega (arith, z)) ∙ B .estimate-blank);
+        ends = M;
+      }
 
 -- ---- a table's length
 

@@ -39,8 +39,15 @@ number G x y exs eys =
     let m = length (line-between G x y exs eys) in
     cond (ltb (start-of G x y) (G .count)) (cond (ends-known G exs eys) (cond (eqb m 0) 11 0) 10) 9
 
--- what a search between places hands back: the number, how many nodes the line has, and the line at the end of a list as long as the graph
+-- what a search between places hands back: the number, how many nodes the line has, and the line at the end of a list
 pub record Answered (G : Graph) (x y : ℕ) (exs eys : List ℕ) (num nodes : ℕ) (path : List ℕ) : Type 0 where
   pub number-is : num ≡ number G x y exs eys
   pub nodes-is : nodes ≡ length (line-between G x y exs eys)
-  pub line-is : drop (G .count - nodes) path ≡ line-between G x y exs eys
+  pub line-is : drop (length path - nodes) path ≡ line-between G x y exs eys
+
+-- the first k ends: whether each is a node, and their nodes
+abbrev pub knownTo : Graph → List ℕ → List ℕ → ℕ → Bool
+knownTo G exs eys k = known (G .xs) (G .ys) (G .count) exs eys k
+
+abbrev pub nodesTo : Graph → List ℕ → List ℕ → ℕ → List ℕ
+nodesTo G exs eys k = table (node-at (G .xs) (G .ys) (G .count) exs eys) k

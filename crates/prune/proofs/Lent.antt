@@ -4,17 +4,15 @@ use mathlib.Core.Bool.{Bool, true, false, cond}
 use mathlib.Core.List.{List}
 use Prim.Native.Nat.{ℕ, zero, suc, _+_, _-_, _*_, _%_, _<_, _≤_}
 use native.Mathlib.Omega.{arith}
-use borrow.Author.Tests.{eq-eqb, ne-eqb, ltb-true}
+use borrow.Author.Tests.{eq-eqb, ne-eqb, ltb-true, lt-ltb, le-ltb}
 use lib.Dec.{eqb, ltb, leb}
-use lib.IntN.{ℤ}
 use lib.ListN.{getD, take, set}
-use lib.Seq.{getD-take, take-take}
-use Rattle.fixed.specs.Up.{ups}
+use lib.Seq.{getD-take, take-take, getD-set-other}
 use Rattle.fixed.proofs.Bools.{and-left, and-right}
-use Rattle.nodes.specs.Graph.{Graph, opposite, linked, link}
-use Rattle.nodes.specs.Lent.{graph}
-use Rattle.nodes.proofs.Nodes.{take-set, link-graph, cond-ind}
-use Rattle.prune.specs.Prune.{moved, only, pick, straight, moved-links, back, backs, relink, shrink, drop-node, join, prune-by, prune-at, prune-from, prune}
+use Rattle.nodes.specs.Graph.{Graph, X, Y, onward, opposite, stand, aim, mark-as, link}
+use Rattle.nodes.specs.Columns.{first}
+use Rattle.nodes.proofs.Nodes.{take-set, link-first, cond-ind}
+use Rattle.prune.specs.Prune.{moved, only, pick, straight, with-links, moved-links, back, backs, relink, shrink, drop-node, join, prune-by, prune-at, prune-from, prune}
 
 pub only-take : (ls : List ℕ) (n i d e : ℕ) → i < n → d < 3 → e < 3 → only (take (n * 4) ls) n i d e ≡ only ls n i d e
 unfolding only
@@ -36,25 +34,59 @@ take-back ls n i d h l = rw (getD-take (n * 4) ls (i * 4 + d) 0 (omega arith)) (
     by true = take-set (n * 4) ls (getD ls (i * 4 + d) 0 * 4 + opposite d) i
     by false = refl
 
-pub relink-graph : (n : ℕ) (nx ny : List ℤ) (nb mk : List ℕ) (i : ℕ) → i < n → graph n nx ny (backs nb n i) mk ≡ relink (graph n nx ny nb mk) i
-unfolding relink backs
-relink-graph n nx ny nb mk i h =
-    rw (take-back (back (back (back nb n i 0) n i 1) n i 2) n i 3 h (omega arith), take-back (back (back nb n i 0) n i 1) n i 2 h (omega arith), take-back (back nb n i 0) n i 1 h (omega arith), take-back nb n i 0 h (omega arith))
+pub relink-first : (n : ℕ) (g : Graph) (i : ℕ) → i < n → first n (with-links g (backs (g .links) n i)) ≡ relink (first n g) i
+unfolding relink backs with-links
+relink-first n g i h =
+    let ls : List ℕ = g .links in
+    rw (take-back (back (back (back ls n i 0) n i 1) n i 2) n i 3 h (omega arith), take-back (back (back ls n i 0) n i 1) n i 2 h (omega arith), take-back (back ls n i 0) n i 1 h (omega arith), take-back ls n i 0 h (omega arith))
 
 take-moved : (ls : List ℕ) (n i j : ℕ) → j < n → take (n * 4) (moved-links ls i j) ≡ moved-links (take (n * 4) ls) i j
 unfolding moved-links
 take-moved ls n i j h =
     rw (getD-take (n * 4) ls (j * 4) 0 (omega arith), getD-take (n * 4) ls (j * 4 + 1) 0 (omega arith), getD-take (n * 4) ls (j * 4 + 2) 0 (omega arith), getD-take (n * 4) ls (j * 4 + 3) 0 (omega arith)) (simp take-set)
 
-pub moved-graph : (n : ℕ) (nx ny nx′ ny′ : List ℤ) (nb mk : List ℕ) (i j : ℕ) → j < n → ups nx′ ≡ set (ups nx) i (getD (ups nx) j 0) → ups ny′ ≡ set (ups ny) i (getD (ups ny) j 0) → graph n nx′ ny′ (moved-links nb i j) (set mk i (getD mk j 0)) ≡ moved (graph n nx ny nb mk) i j
+pub moved-first : (n : ℕ) (g : Graph) (i j : ℕ) → j < n → first n (moved g i j) ≡ moved (first n g) i j
 unfolding moved
-moved-graph n nx ny nx′ ny′ nb mk i j h ex ey =
-    rw (ex, ey, take-moved nb n i j h, getD-take n (ups nx) j 0 h, getD-take n (ups ny) j 0 h, getD-take n mk j 0 h) (simp take-set)
+moved-first n g i j h =
+    rw (take-moved (g .links) n i j h, getD-take n (g .xs) j 0 h, getD-take n (g .ys) j 0 h, getD-take n (g .marks) j 0 h) (simp take-set)
 
-pub shrink-graph : (n : ℕ) (nx ny : List ℤ) (nb mk : List ℕ) → graph (n - 1) nx ny nb mk ≡ shrink (graph n nx ny nb mk)
+pub shrink-first : (n : ℕ) (g : Graph) → first (n - 1) g ≡ shrink (first n g)
 unfolding shrink
-shrink-graph n nx ny nb mk =
-    rw (take-take (n - 1) n (ups nx) (omega arith), take-take (n - 1) n (ups ny) (omega arith), take-take ((n - 1) * 4) (n * 4) nb (omega arith), take-take (n - 1) n mk (omega arith))
+shrink-first n g =
+    rw (take-take (n - 1) n (g .xs) (omega arith), take-take (n - 1) n (g .ys) (omega arith), take-take ((n - 1) * 4) (n * 4) (g .links) (omega arith), take-take (n - 1) n (g .marks) (omega arith))
+
+-- ---- several stores
+
+pub aims : (g g1 g2 g3 g4 : Graph) (i j : ℕ) → g1 ≡ aim g (i * 4 + 0) (onward g 0 j) → g2 ≡ aim g1 (i * 4 + 1) (onward g1 1 j) → g3 ≡ aim g2 (i * 4 + 2) (onward g2 2 j) → g4 ≡ aim g3 (i * 4 + 3) (onward g3 3 j) → g4 ≡ with-links g (moved-links (g .links) i j)
+unfolding aim with-links moved-links
+aims g g1 g2 g3 g4 i j a b c d =
+    let zi : i * 4 + 0 ≡ i * 4 = omega arith in
+    let zj : j * 4 + 0 ≡ j * 4 = omega arith in
+    let ls : List ℕ = g .links in
+    let l1 : List ℕ = set ls (i * 4) (getD ls (j * 4) 0) in
+    let o1 : getD l1 (j * 4 + 1) 0 ≡ getD ls (j * 4 + 1) 0 = getD-set-other ls (i * 4) (j * 4 + 1) (getD ls (j * 4) 0) 0 (λ q. omega arith) in
+    let l2 : List ℕ = set l1 (i * 4 + 1) (getD ls (j * 4 + 1) 0) in
+    let o2 : getD l2 (j * 4 + 2) 0 ≡ getD ls (j * 4 + 2) 0 = getD-set-other l1 (i * 4 + 1) (j * 4 + 2) (getD ls (j * 4 + 1) 0) 0 (λ q. omega arith) ∙ getD-set-other ls (i * 4) (j * 4 + 2) (getD ls (j * 4) 0) 0 (λ q. omega arith) in
+    let l3 : List ℕ = set l2 (i * 4 + 2) (getD ls (j * 4 + 2) 0) in
+    let o3 : getD l3 (j * 4 + 3) 0 ≡ getD ls (j * 4 + 3) 0 = getD-set-other l2 (i * 4 + 2) (j * 4 + 3) (getD ls (j * 4 + 2) 0) 0 (λ q. omega arith) ∙ getD-set-other l1 (i * 4 + 1) (j * 4 + 3) (getD ls (j * 4 + 1) 0) 0 (λ q. omega arith) ∙ getD-set-other ls (i * 4) (j * 4 + 3) (getD ls (j * 4) 0) 0 (λ q. omega arith) in
+    rw (d, c, b, a, zi, zj, o1, o2, o3)
+
+pub moved-by : (g g1 g2 g3 : Graph) (i j x y m : ℕ) → x ≡ X g j → y ≡ Y g j → g1 ≡ stand g i x y → g2 ≡ with-links g1 (moved-links (g1 .links) i j) → m ≡ getD (g2 .marks) j 0 → g3 ≡ mark-as g2 i m → g3 ≡ moved g i j
+unfolding stand with-links mark-as moved
+moved-by g g1 g2 g3 i j x y m ex ey a b em c = rw (c, em, b, a, ex, ey)
+
+-- the neighbour's link, aimed or not
+pub back-aimed : (g g′ : Graph) (n i d v : ℕ) → v ≡ onward g d i → v < n → g′ ≡ aim g (v * 4 + opposite d) i → g′ ≡ with-links g (back (g .links) n i d)
+unfolding aim with-links back
+back-aimed g g′ n i d v e h q = rw (q, ← e, lt-ltb _ _ h)
+
+pub back-left : (g : Graph) (n i d v : ℕ) → v ≡ onward g d i → n ≤ v → g ≡ with-links g (back (g .links) n i d)
+unfolding with-links back
+back-left g n i d v e h = rw (← e, le-ltb _ _ h)
+
+pub backs-by : (g g1 g2 g3 g4 : Graph) (n i : ℕ) → g1 ≡ with-links g (back (g .links) n i 0) → g2 ≡ with-links g1 (back (g1 .links) n i 1) → g3 ≡ with-links g2 (back (g2 .links) n i 2) → g4 ≡ with-links g3 (back (g3 .links) n i 3) → g4 ≡ with-links g (backs (g .links) n i)
+unfolding with-links backs
+backs-by g g1 g2 g3 g4 n i a b c d = rw (d, c, b, a)
 
 -- ---- a node that goes
 
@@ -85,23 +117,23 @@ goes ls mk n i = by (leb 16 (getD mk i 0)) (only ls n i 0 2) (only ls n i 2 0) r
 pub goes-at : (ls mk : List ℕ) (n i d : ℕ) → d ≡ straight ls mk n i → (d ≡ 4 → ⊥) → Goes ls n i d
 goes-at ls mk n i d e f = rw e (goes ls mk n i (λ q. f (e ∙ q)))
 
-pub prune-stays : (n : ℕ) (nx ny : List ℤ) (nb mk : List ℕ) (i : ℕ) → i < n → straight nb mk n i ≡ 4 → graph n nx ny nb mk ≡ prune-at (graph n nx ny nb mk) i
+pub prune-stays : (n : ℕ) (g : Graph) (i : ℕ) → i < n → straight (g .links) (g .marks) n i ≡ 4 → first n g ≡ prune-at (first n g) i
 unfolding prune-at prune-by
-prune-stays n nx ny nb mk i h e = rw (straight-take nb mk n i h, e)
+prune-stays n g i h e = rw (straight-take (g .links) (g .marks) n i h, e)
 
-pub prune-goes : (n : ℕ) (nx ny : List ℤ) (nb mk : List ℕ) (i d : ℕ) → i < n → d ≡ straight nb mk n i → (d ≡ 4 → ⊥) → d < 3 → drop-node (graph n nx ny (linked nb (d + 1) (getD nb (i * 4 + d) 0) (getD nb (i * 4 + (d + 1)) 0)) mk) i ≡ prune-at (graph n nx ny nb mk) i
+pub prune-goes : (n : ℕ) (g g′ : Graph) (i d a b : ℕ) → i < n → d ≡ straight (g .links) (g .marks) n i → (d ≡ 4 → ⊥) → d < 3 → a ≡ onward g d i → b ≡ onward g (d + 1) i → g′ ≡ link g (d + 1) a b → drop-node (first n g′) i ≡ prune-at (first n g) i
 unfolding prune-at prune-by join
-prune-goes n nx ny nb mk i d h e f l =
-    rw (straight-take nb mk n i h, ← e, ne-eqb _ _ f, getD-take (n * 4) nb (i * 4 + d) 0 (omega arith), getD-take (n * 4) nb (i * 4 + (d + 1)) 0 (omega arith), link-graph n nx ny nb mk (d + 1) (getD nb (i * 4 + d) 0) (getD nb (i * 4 + (d + 1)) 0))
+prune-goes n g g′ i d a b h e f l ea eb q =
+    rw (straight-take (g .links) (g .marks) n i h, ← e, ne-eqb _ _ f, getD-take (n * 4) (g .links) (i * 4 + d) 0 (omega arith), getD-take (n * 4) (g .links) (i * 4 + (d + 1)) 0 (omega arith), q, ← ea, ← eb, link-first n g (d + 1) a b)
 
-pub drop-last : (n : ℕ) (nx ny : List ℤ) (nb mk : List ℕ) (i : ℕ) → i ≡ n - 1 → graph (n - 1) nx ny nb mk ≡ drop-node (graph n nx ny nb mk) i
+pub drop-last : (n : ℕ) (g : Graph) (i : ℕ) → i ≡ n - 1 → first (n - 1) g ≡ drop-node (first n g) i
 unfolding drop-node
-drop-last n nx ny nb mk i e = rw (eq-eqb _ _ e) (shrink-graph n nx ny nb mk)
+drop-last n g i e = rw (eq-eqb _ _ e) (shrink-first n g)
 
-pub drop-inner : (n : ℕ) (nx ny nx′ ny′ : List ℤ) (nb mk nb′ mk′ : List ℕ) (i : ℕ) → i < n → (i ≡ n - 1 → ⊥) → graph n nx′ ny′ nb′ mk′ ≡ moved (graph n nx ny nb mk) i (n - 1) → graph (n - 1) nx′ ny′ (backs nb′ n i) mk′ ≡ drop-node (graph n nx ny nb mk) i
+pub drop-inner : (n : ℕ) (g g1 g2 : Graph) (i : ℕ) → i < n → (i ≡ n - 1 → ⊥) → g1 ≡ moved g i (n - 1) → g2 ≡ with-links g1 (backs (g1 .links) n i) → first (n - 1) g2 ≡ drop-node (first n g) i
 unfolding drop-node
-drop-inner n nx ny nx′ ny′ nb mk nb′ mk′ i h e m =
-    rw (ne-eqb _ _ e, ← m, ← relink-graph n nx′ ny′ nb′ mk′ i h) (shrink-graph n nx′ ny′ (backs nb′ n i) mk′)
+drop-inner n g g1 g2 i h e m q =
+    rw (q, ne-eqb _ _ e, ← moved-first n g i (n - 1) (omega arith), ← m, ← relink-first n g1 i h) (shrink-first n (with-links g1 (backs (g1 .links) n i)))
 
 -- ---- the loop
 

@@ -1,2 +1,3 @@
 pub mod Queue
 pub mod Index
+pub mod Columns

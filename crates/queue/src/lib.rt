@@ -3,10 +3,16 @@
 ghost use mathlib.Core.Path.{_≡_};
 ghost use Prim.Native.Nat.{ℕ, _+_, _*_, _≤_, _<_, min};
 ghost use lib.ListN.{length, getD, set};
-ghost use Rattle.queue.specs.Queue.{NODES, UNSET, top as topS, popped, after-pop};
+ghost use Rattle.fixed.specs.Seen.{old, new};
+ghost use Rattle.columns.specs.Columns.{Only};
+ghost use Rattle.queue.specs.Columns.{WIDTH, SUM, sums};
+ghost use Rattle.queue.specs.Queue.{NODES, top as topS, popped, after-pop};
 ghost use Rattle.queue.specs.Index.{LeastIn, Tree, Indexed, key as keyS};
 
 pub const NODES: usize = 4096;
+
+// The column of the sums, behind those of scores, estimates and predecessors.
+pub const SUM: usize = 3;
 
 pub const UNSET: u64 = 18446744073709551615;
 
@@ -19,14 +25,16 @@ pub enum Popped {
 }
 
 // The first least entry from lo to before hi.
-fn least_in(queue: &[u64], lo: usize, hi: usize) -> usize
-    requires { ⌜ (lo < hi) × (hi ≤ length (now queue)) ⌝ }
-    ensures { λ r. ⌜ LeastIn (now (queue .entry)) lo hi r ⌝ }
+fn least_in(cells: &[u64], n: usize, lo: usize, hi: usize) -> usize
+    requires { ⌜ (lo < hi) × (hi ≤ n) × (n * WIDTH ≤ length (now cells)) ⌝ }
+    ensures { λ r. ⌜ LeastIn (sums n (old cells)) lo hi r ⌝ }
 {
     let mut best = lo;
     let mut i = lo + 1;
     while i < hi {
-        if queue[i] < queue[best] {
+        let x = columns::get(cells, n, SUM, i);
+        let y = columns::get(cells, n, SUM, best);
+        if x < y {
             best = i;
         }
         i += 1;
@@ -35,15 +43,15 @@ fn least_in(queue: &[u64], lo: usize, hi: usize) -> usize
 }
 
 // The first least entry of all: the tree's least key tells it, unless no sum has a key.
-fn top(queue: &[u64], tree: &[u64]) -> usize
-    requires { ⌜ Indexed (now queue) (now tree) ⌝ }
-    ensures { λ r. ⌜ (r ≡ topS (now (queue .entry))) × (r < length (now (queue .entry))) ⌝ }
+fn top(cells: &[u64], tree: &[u64], n: usize) -> usize
+    requires { ⌜ Indexed (sums n (now cells)) (now tree) × (n * WIDTH ≤ length (now cells)) ⌝ }
+    ensures { λ r. ⌜ (r ≡ topS (sums n (old cells))) × (r < n) ⌝ }
 {
     let x = tree[1];
     if x < UNSET {
         return (x % 4096) as usize;
     }
-    least_in(queue, 0, queue.len())
+    least_in(cells, n, 0, n)
 }
 
 // The key of the node v with the sum f.
@@ -67,7 +75,7 @@ fn lesser(a: u64, b: u64) -> u64
 // Replaces the key of the node v of n, and goes up.
 fn raise(tree: &mut [u64], n: usize, v: usize, x: u64)
     requires { ⌜ Tree n (now tree) × (v < n) × (n ≤ NODES) ⌝ }
-    ensures { λ _. ⌜ Tree n (now (tree .exit)) × ((j : ℕ) → n ≤ j → getD (now (tree .exit)) j 0 ≡ getD (set (now (tree .entry)) (n + v) x) j 0) ⌝ }
+    ensures { λ _. ⌜ Tree n (new tree) × ((j : ℕ) → n ≤ j → getD (new tree) j 0 ≡ getD (set (old tree) (n + v) x) j 0) ⌝ }
 {
     let mut k = n + v;
     let mut best = x;
@@ -80,23 +88,23 @@ fn raise(tree: &mut [u64], n: usize, v: usize, x: u64)
 }
 
 // Replaces the entry of the node v.
-pub fn put(queue: &mut [u64], tree: &mut [u64], v: usize, f: u64)
-    requires { ⌜ Indexed (now queue) (now tree) × (v < length (now queue)) ⌝ }
-    ensures { λ _. ⌜ (now (queue .exit) ≡ set (now (queue .entry)) v f) × Indexed (now (queue .exit)) (now (tree .exit)) ⌝ }
+pub fn put(cells: &mut [u64], tree: &mut [u64], n: usize, v: usize, f: u64)
+    requires { ⌜ Indexed (sums n (now cells)) (now tree) × (v < n) × (n * WIDTH ≤ length (now cells)) ⌝ }
+    ensures { λ _. ⌜ (sums n (new cells) ≡ set (sums n (old cells)) v f) × Only n SUM (old cells) (new cells) × Indexed (sums n (new cells)) (new tree) ⌝ }
 {
-    queue[v] = f;
-    raise(tree, queue.len(), v, key(f, v));
+    columns::put(cells, n, SUM, v, f);
+    raise(tree, n, v, key(f, v));
 }
 
 // Takes the first least entry out.
-pub fn pop_least(queue: &mut [u64], tree: &mut [u64]) -> Popped
-    requires { ⌜ Indexed (now queue) (now tree) ⌝ }
-    ensures { λ r. ⌜ r ≡ popped (now (queue .entry)) ⌝ }
-    ensures { λ r. ⌜ (now (queue .exit) ≡ after-pop (now (queue .entry))) × Indexed (now (queue .exit)) (now (tree .exit)) ⌝ }
+pub fn pop_least(cells: &mut [u64], tree: &mut [u64], n: usize) -> Popped
+    requires { ⌜ Indexed (sums n (now cells)) (now tree) × (n * WIDTH ≤ length (now cells)) ⌝ }
+    ensures { λ r. ⌜ r ≡ popped (sums n (old cells)) ⌝ }
+    ensures { λ r. ⌜ (sums n (new cells) ≡ after-pop (sums n (old cells))) × Only n SUM (old cells) (new cells) × Indexed (sums n (new cells)) (new tree) ⌝ }
 {
-    let r = top(queue, tree);
-    let f = queue[r];
-    put(queue, tree, r, UNSET);
+    let r = top(cells, tree, n);
+    let f = columns::get(cells, n, SUM, r);
+    put(cells, tree, n, r, UNSET);
     if f < UNSET {
         Popped::At(r)
     } else {

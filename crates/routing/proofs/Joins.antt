@@ -64,7 +64,7 @@ module _ (W : Wires) (H : Held (W .page .n) (W .net)) where
   unfolding routeWire fallbackWire lineWire
   tried-held L sx sy ex ey along isRoot J =
       either (eqb (L .count) 0) _ _ (either (fits (W .page .n) (fallbackVertices sx sy ex ey along) (W .net .m) 2) (tried 0 (pushFallback sx sy ex ey along J W)) (tried 15 W) (fallback-held sx sy ex ey along J) H)
-      (either (eqb (L .count) 1) (tried 14 W) _ H (either (fits (W .page .n) (lineVertices (L .kinds) (L .ways) (L .count)) (W .net .m) (lineEnds (L .count))) (tried 0 (pushVertices L isRoot J W)) (tried 15 W) (line-held L isRoot J W H .held) H))
+      (either (eqb (L .count) 1) (tried 14 W) _ H (either (fits (W .page .n) (lineVertices L) (W .net .m) (lineEnds L)) (tried 0 (pushVertices L isRoot J W)) (tried 15 W) (line-held L isRoot J W H .held) H))
 
   -- ---- the junction of a branch
 

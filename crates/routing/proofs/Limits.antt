@@ -14,7 +14,7 @@ use Rattle.routing.specs.Branches.{Tried, tried, Limited, fits, lineWire
 
 -- ---- how many vertices and ends a wire adds
 
-pub line-n : (L : Line) (isRoot : Bool) (J : Junction) (W : Wires) → pushVertices L isRoot J W .page .n ≡ W .page .n + lineVertices (L .kinds) (L .ways) (L .count)
+pub line-n : (L : Line) (isRoot : Bool) (J : Junction) (W : Wires) → pushVertices L isRoot J W .page .n ≡ W .page .n + lineVertices L
 unfolding pushVertices pushStart pushDummies pushVertex
 line-n L isRoot J W = omega (arith, nodes-n L J (L .count - 1) (wires (pushStart L isRoot (W .page)) (pushStartEnds L (W .page .n) (W .net))))
 
@@ -31,7 +31,7 @@ unfolding pushNodes
 nodes-m L J zero W = omega arith
 nodes-m L J (suc k) W = omega (arith, node-m L J (suc k) (pushNodes L J k W), nodes-m L J k W)
 
-pub line-m : (L : Line) (isRoot : Bool) (J : Junction) (W : Wires) → 0 < L .count → pushVertices L isRoot J W .net .m ≡ W .net .m + lineEnds (L .count)
+pub line-m : (L : Line) (isRoot : Bool) (J : Junction) (W : Wires) → 0 < L .count → pushVertices L isRoot J W .net .m ≡ W .net .m + lineEnds L
 unfolding pushVertices pushStartEnds pushEnd
 line-m L isRoot J W h = omega (arith, nodes-m L J (L .count - 1) (wires (pushStart L isRoot (W .page)) (pushStartEnds L (W .page .n) (W .net))))
 
@@ -66,7 +66,7 @@ module _ (W : Wires) (n-le : W .page .n ≤ 512) (m-le : W .net .m ≤ 4096) whe
   unfolding lineWire
   line-limited L isRoot J h = by (eqb (L .count) 1)
     where
-      by : (b : Bool) → Limited W (cond b (tried 14 W) (cond (fits (W .page .n) (lineVertices (L .kinds) (L .ways) (L .count)) (W .net .m) (lineEnds (L .count))) (tried 0 (pushVertices L isRoot J W)) (tried 15 W)))
+      by : (b : Bool) → Limited W (cond b (tried 14 W) (cond (fits (W .page .n) (lineVertices L) (W .net .m) (lineEnds L)) (tried 0 (pushVertices L isRoot J W)) (tried 15 W)))
       by true = refused 14 (λ e. omega arith)
       by false = fitted _ _ _ (line-n L isRoot J W) (line-m L isRoot J W h) (omega arith) _ refl
 

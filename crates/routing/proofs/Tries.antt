@@ -30,7 +30,7 @@ module _ (L : Line) (isRoot : Bool) (J : Junction) (W : Wires) where
   unfolding lineWire
   line-one h = rw (eq-eqb _ _ h)
 
-  module _ (ne : L .count ≡ 1 → ⊥) (v : ℕ) (ev : v ≡ lineVertices (L .kinds) (L .ways) (L .count)) (b : Bool) (q : b ≡ fits (W .page .n) v (W .net .m) (lineEnds (L .count))) where
+  module _ (ne : L .count ≡ 1 → ⊥) (v : ℕ) (ev : v ≡ lineVertices L) (b : Bool) (q : b ≡ fits (W .page .n) v (W .net .m) (lineEnds L)) where
     pub line-over : not b ≡ true → tried 15 W ≡ lineWire L isRoot J W
     unfolding lineWire
     line-over t = rw (ne-eqb _ _ ne, ← ev, ← q, not-true b t)

@@ -28,7 +28,7 @@ fits n v m e = leb (n + v) VERTICES && leb (m + e) ENDS
 unfoldable pub lineWire : Line → Bool → Junction → Wires → Tried
 lineWire L isRoot J W =
     let done = tried 0 (pushVertices L isRoot J W) in
-    cond (eqb (L .count) 1) (tried 14 W) (cond (fits (W .page .n) (lineVertices (L .kinds) (L .ways) (L .count)) (W .net .m) (lineEnds (L .count))) done (tried 15 W))
+    cond (eqb (L .count) 1) (tried 14 W) (cond (fits (W .page .n) (lineVertices L) (W .net .m) (lineEnds L)) done (tried 15 W))
 
 -- a fallback from s to e
 unfoldable pub fallbackWire : ℕ → ℕ → ℕ → ℕ → Bool → Junction → Wires → Tried
@@ -77,13 +77,3 @@ pub record Joint (L : Line) (sx sy : ℕ) (along : Bool) (W : Wires) : Type 0 wh
   pub after : routeBranch L sx sy along W .number ≡ 0
       → endVertex (W .net .rows) (joinedEnd L sx sy (W .net)) + 1 < routeBranch L sx sy along W .wires .page .n - 1
   pub inside : routeBranch L sx sy along W .number ≡ 0 → routeBranch L sx sy along W .wires .page .n - 1 < routeBranch L sx sy along W .wires .page .n
-
--- ---- what safety asks
-
--- the columns of a line hold its nodes
-pub record Columns (x y kinds ways count : ℕ) : Type 0 where
-  pub most : count ≤ 4096
-  pub in-x : count ≤ x
-  pub in-y : count ≤ y
-  pub in-kinds : count ≤ kinds
-  pub in-ways : count ≤ ways

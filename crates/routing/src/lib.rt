@@ -1,14 +1,15 @@
-// The wires of a net: the root wire between the root pair of its endpoints, and a branch from each other endpoint.
+// The wires of a net: the root wire between the root pair of its endpoints, and a branch from each other endpoint. A line is `path`, a path of the graph of
+// `order` nodes in the list `nodes`.
 ghost use mathlib.Core.Path.{_≡_};
 ghost use Prim.Native.Nat.{_+_, _-_, _*_, _<_, _≤_};
 ghost use lib.ListN.{length};
 ghost use lib.Dec.{eqb};
-ghost use Rattle.fixed.specs.Up.{ups};
+ghost use Rattle.fixed.specs.Seen.{old, new};
 ghost use Rattle.vertex.specs.Pages.{carried};
-ghost use Rattle.wire.specs.Lines.{line};
-ghost use Rattle.wire.specs.Wires.{vertices, ends as endsOf, wires, Long, Room};
-ghost use Rattle.routing.specs.Branches.{tried, fits as fitsIn, Columns, lineWire, fallbackWire, routeWire, joinedEnd, routeBranch, putJunction, joinBranch};
-ghost use Rattle.routing.specs.Roots.{slant as slantAt, slantOf, rootTo, rootPair};
+ghost use Rattle.wire.specs.Lines.{PathOn, pathIn};
+ghost use Rattle.wire.specs.Wires.{ends as endsOf, Room, wiresIn, wiresOut};
+ghost use Rattle.routing.specs.Branches.{tried, fits as fitsIn, lineWire, fallbackWire, routeWire, joinedEnd, routeBranch, putJunction, joinBranch};
+ghost use Rattle.routing.specs.Roots.{slant as slantAt, slantOf, rootPair};
 use vertex::Junction;
 
 // A wire that was tried: 0 or why it is refused, and the numbers of vertices and ends then.
@@ -21,7 +22,7 @@ pub struct Step {
 // The size of |dx| - |dy| of the endpoints a and b.
 fn slant(xs: &[u32], ys: &[u32], a: usize, b: usize) -> u32
     requires { ⌜ (a < length (now xs)) × (b < length (now xs)) × (length (now ys) ≡ length (now xs)) ⌝ }
-    ensures { λ r. ⌜ r ≡ slantAt (now (xs .entry)) (now (ys .entry)) a b ⌝ }
+    ensures { λ r. ⌜ r ≡ slantAt (old xs) (old ys) a b ⌝ }
 {
     let dx = fixed::gap(xs[a], xs[b]);
     let dy = fixed::gap(ys[a], ys[b]);
@@ -31,7 +32,7 @@ fn slant(xs: &[u32], ys: &[u32], a: usize, b: usize) -> u32
 // The size of |dx| - |dy| of the pair p.
 fn slant_of(xs: &[u32], ys: &[u32], p: usize) -> u32
     requires { ⌜ (0 < length (now xs)) × (length (now ys) ≡ length (now xs)) × (p < length (now xs) * length (now xs)) ⌝ }
-    ensures { λ r. ⌜ r ≡ slantOf (now (xs .entry)) (now (ys .entry)) (length (now (xs .entry))) p ⌝ }
+    ensures { λ r. ⌜ r ≡ slantOf (old xs) (old ys) (length (old xs)) p ⌝ }
 {
     let n = xs.len();
     slant(xs, ys, p / n, p % n)
@@ -40,7 +41,7 @@ fn slant_of(xs: &[u32], ys: &[u32], p: usize) -> u32
 // The root pair of two endpoints or more.
 pub fn pick_root_path(xs: &[u32], ys: &[u32]) -> usize
     requires { ⌜ (2 ≤ length (now xs)) × (length (now xs) ≤ 256) × (length (now ys) ≡ length (now xs)) ⌝ }
-    ensures { λ r. ⌜ r ≡ rootPair (now (xs .entry)) (now (ys .entry)) (length (now (xs .entry))) ⌝ }
+    ensures { λ r. ⌜ r ≡ rootPair (old xs) (old ys) (length (old xs)) ⌝ }
 {
     let n = xs.len();
     let mut best = 1;
@@ -64,11 +65,9 @@ fn fits(n: usize, v: usize, m: usize, e: usize) -> bool
 
 // Adds a wire along a line of one node or more.
 fn line_wire(
-    lx: &[i32],
-    ly: &[i32],
-    kinds: &[u8],
-    ways: &[u8],
-    count: usize,
+    nodes: &[i32],
+    order: usize,
+    path: &[u32],
     root: bool,
     junction: Junction,
     x: &mut [i32],
@@ -78,25 +77,23 @@ fn line_wire(
     ends: &mut [u32],
     m: usize,
 ) -> Step
-    requires { ⌜ Columns (length (now lx)) (length (now ly)) (length (now kinds)) (length (now ways)) count ⌝ }
+    requires { ⌜ PathOn order (now nodes) (now path) ⌝ }
     requires { ⌜ Room (length (now x)) (length (now y)) (length (now letters)) ⌝ }
-    requires { ⌜ (0 < count) × (n ≤ 512) × (m ≤ 4096) × (16384 ≤ length (now ends)) ⌝ }
-    ensures { λ r. ⌜ tried (r .number) (wires (vertices (ups (now (x .exit))) (ups (now (y .exit))) (now (letters .exit)) (r .n)) (endsOf (now (ends .exit)) (r .m))) ≡ lineWire (line (ups (now (lx .entry))) (ups (now (ly .entry))) (now (kinds .entry)) (now (ways .entry)) count) root junction (wires (vertices (ups (now (x .entry))) (ups (now (y .entry))) (now (letters .entry)) n) (endsOf (now (ends .entry)) m)) ⌝ }
+    requires { ⌜ (0 < length (now path)) × (n ≤ 512) × (m ≤ 4096) × (16384 ≤ length (now ends)) ⌝ }
+    ensures { λ r. ⌜ tried (r .number) (wiresOut x y letters (r .n) ends (r .m)) ≡ lineWire (pathIn order nodes path) root junction (wiresIn x y letters n ends m) ⌝ }
 {
-    if count == 1 {
+    if path.len() == 1 {
         return Step { number: 14, n, m };
     }
-    let v = wire::line_vertices(kinds, ways, count);
-    let e = count + 1;
+    let v = wire::line_vertices(nodes, order, path);
+    let e = path.len() + 1;
     if !fits(n, v, m, e) {
         return Step { number: 15, n, m };
     }
     let total = wire::push_vertices(
-        lx,
-        ly,
-        kinds,
-        ways,
-        count,
+        nodes,
+        order,
+        path,
         root,
         junction,
         x,
@@ -130,7 +127,7 @@ fn fallback_wire(
 ) -> Step
     requires { ⌜ Room (length (now x)) (length (now y)) (length (now letters)) ⌝ }
     requires { ⌜ (n ≤ 512) × (m ≤ 4096) × (16384 ≤ length (now ends)) ⌝ }
-    ensures { λ r. ⌜ tried (r .number) (wires (vertices (ups (now (x .exit))) (ups (now (y .exit))) (now (letters .exit)) (r .n)) (endsOf (now (ends .exit)) (r .m))) ≡ fallbackWire sx sy ex ey along junction (wires (vertices (ups (now (x .entry))) (ups (now (y .entry))) (now (letters .entry)) n) (endsOf (now (ends .entry)) m)) ⌝ }
+    ensures { λ r. ⌜ tried (r .number) (wiresOut x y letters (r .n) ends (r .m)) ≡ fallbackWire sx sy ex ey along junction (wiresIn x y letters n ends m) ⌝ }
 {
     let v = wire::fallback_vertices(sx, sy, ex, ey, along);
     if !fits(n, v, m, 2) {
@@ -159,11 +156,9 @@ fn fallback_wire(
 
 // Adds a wire from s along a line, or to e where the line has no node.
 pub fn route_wire(
-    lx: &[i32],
-    ly: &[i32],
-    kinds: &[u8],
-    ways: &[u8],
-    count: usize,
+    nodes: &[i32],
+    order: usize,
+    path: &[u32],
     sx: u32,
     sy: u32,
     ex: u32,
@@ -178,20 +173,18 @@ pub fn route_wire(
     ends: &mut [u32],
     m: usize,
 ) -> Step
-    requires { ⌜ Columns (length (now lx)) (length (now ly)) (length (now kinds)) (length (now ways)) count ⌝ }
+    requires { ⌜ PathOn order (now nodes) (now path) ⌝ }
     requires { ⌜ Room (length (now x)) (length (now y)) (length (now letters)) ⌝ }
     requires { ⌜ (n ≤ 512) × (m ≤ 4096) × (16384 ≤ length (now ends)) ⌝ }
-    ensures { λ r. ⌜ tried (r .number) (wires (vertices (ups (now (x .exit))) (ups (now (y .exit))) (now (letters .exit)) (r .n)) (endsOf (now (ends .exit)) (r .m))) ≡ routeWire (line (ups (now (lx .entry))) (ups (now (ly .entry))) (now (kinds .entry)) (now (ways .entry)) count) sx sy ex ey along root junction (wires (vertices (ups (now (x .entry))) (ups (now (y .entry))) (now (letters .entry)) n) (endsOf (now (ends .entry)) m)) ⌝ }
+    ensures { λ r. ⌜ tried (r .number) (wiresOut x y letters (r .n) ends (r .m)) ≡ routeWire (pathIn order nodes path) sx sy ex ey along root junction (wiresIn x y letters n ends m) ⌝ }
 {
-    if count == 0 {
+    if path.len() == 0 {
         return fallback_wire(sx, sy, ex, ey, along, junction, x, y, letters, n, ends, m);
     }
     line_wire(
-        lx,
-        ly,
-        kinds,
-        ways,
-        count,
+        nodes,
+        order,
+        path,
         root,
         junction,
         x,
@@ -205,25 +198,24 @@ pub fn route_wire(
 
 // The end that a branch from s joins.
 fn joined_end(
-    lx: &[i32],
-    ly: &[i32],
-    kinds: &[u8],
-    ways: &[u8],
-    count: usize,
+    nodes: &[i32],
+    order: usize,
+    path: &[u32],
     sx: u32,
     sy: u32,
     ends: &[u32],
     m: usize,
 ) -> usize
-    requires { ⌜ (count ≤ length (now lx)) × (count ≤ length (now ly)) ⌝ }
+    requires { ⌜ PathOn order (now nodes) (now path) ⌝ }
     requires { ⌜ (0 < m) × (m ≤ 4096) × (16384 ≤ length (now ends)) ⌝ }
-    ensures { λ r. ⌜ (r ≡ joinedEnd (line (ups (now (lx .entry))) (ups (now (ly .entry))) (now (kinds .entry)) (now (ways .entry)) count) sx sy (endsOf (now (ends .entry)) m)) × (r < m) ⌝ }
+    ensures { λ r. ⌜ (r ≡ joinedEnd (pathIn order nodes path) sx sy (endsOf (old ends) m)) × (r < m) ⌝ }
 {
-    if count == 0 {
+    if path.len() == 0 {
         return wire::nearest_end(ends, m, sx, sy);
     }
-    let px = fixed::at(lx, count - 1);
-    let py = fixed::at(ly, count - 1);
+    let last = path.len() - 1;
+    let px = wire::x_at(nodes, order, path, last);
+    let py = wire::y_at(nodes, order, path, last);
     wire::junction_end(ends, m, px, py)
 }
 
@@ -240,7 +232,7 @@ fn junction_of(kind: u32) -> Junction
 // Writes the junction j.
 fn put_junction(joins: &mut [u32], j: usize, holder: u32, joiner: u32, kind: u32)
     requires { ⌜ (j < 256) × (768 ≤ length (now joins)) ⌝ }
-    ensures { λ _. ⌜ now (joins .exit) ≡ putJunction (now (joins .entry)) j holder joiner kind ⌝ }
+    ensures { λ _. ⌜ new joins ≡ putJunction (old joins) j holder joiner kind ⌝ }
 {
     joins[3 * j] = holder;
     joins[3 * j + 1] = joiner;
@@ -249,11 +241,9 @@ fn put_junction(joins: &mut [u32], j: usize, holder: u32, joiner: u32, kind: u32
 
 // Adds the branch from s and its junction, behind j of them.
 pub fn route_branch(
-    lx: &[i32],
-    ly: &[i32],
-    kinds: &[u8],
-    ways: &[u8],
-    count: usize,
+    nodes: &[i32],
+    order: usize,
+    path: &[u32],
     sx: u32,
     sy: u32,
     along: bool,
@@ -266,25 +256,23 @@ pub fn route_branch(
     joins: &mut [u32],
     j: usize,
 ) -> Step
-    requires { ⌜ Columns (length (now lx)) (length (now ly)) (length (now kinds)) (length (now ways)) count ⌝ }
+    requires { ⌜ PathOn order (now nodes) (now path) ⌝ }
     requires { ⌜ Room (length (now x)) (length (now y)) (length (now letters)) ⌝ }
     requires { ⌜ (n ≤ 512) × (0 < m) × (m ≤ 4096) × (16384 ≤ length (now ends)) ⌝ }
     requires { ⌜ (j < 256) × (768 ≤ length (now joins)) ⌝ }
-    ensures { λ r. ⌜ tried (r .number) (wires (vertices (ups (now (x .exit))) (ups (now (y .exit))) (now (letters .exit)) (r .n)) (endsOf (now (ends .exit)) (r .m))) ≡ routeBranch (line (ups (now (lx .entry))) (ups (now (ly .entry))) (now (kinds .entry)) (now (ways .entry)) count) sx sy along (wires (vertices (ups (now (x .entry))) (ups (now (y .entry))) (now (letters .entry)) n) (endsOf (now (ends .entry)) m)) ⌝ }
-    ensures { λ _. ⌜ now (joins .exit) ≡ joinBranch (line (ups (now (lx .entry))) (ups (now (ly .entry))) (now (kinds .entry)) (now (ways .entry)) count) sx sy along (wires (vertices (ups (now (x .entry))) (ups (now (y .entry))) (now (letters .entry)) n) (endsOf (now (ends .entry)) m)) (now (joins .entry)) j ⌝ }
+    ensures { λ r. ⌜ tried (r .number) (wiresOut x y letters (r .n) ends (r .m)) ≡ routeBranch (pathIn order nodes path) sx sy along (wiresIn x y letters n ends m) ⌝ }
+    ensures { λ _. ⌜ new joins ≡ joinBranch (pathIn order nodes path) sx sy along (wiresIn x y letters n ends m) (old joins) j ⌝ }
 {
-    let e = joined_end(lx, ly, kinds, ways, count, sx, sy, ends, m);
+    let e = joined_end(nodes, order, path, sx, sy, ends, m);
     let ex = ends[4 * e];
     let ey = ends[4 * e + 1];
     let holder = ends[4 * e + 2];
     let kind = ends[4 * e + 3];
     let junction = junction_of(kind);
     let step = route_wire(
-        lx,
-        ly,
-        kinds,
-        ways,
-        count,
+        nodes,
+        order,
+        path,
         sx,
         sy,
         ex,

@@ -7,10 +7,10 @@ use native.Mathlib.Omega.{arith}
 use borrow.Author.Tests.{eq-eqb, ne-eqb}
 use lib.Dec.{eqb, ltb}
 use lib.IntN.{ℤ}
-use lib.ListN.{getD}
 use Rattle.nodes.specs.Graph.{none, Graph, onward, find, place, link}
-use Rattle.nodes.specs.Lent.{graph, Met}
-use Rattle.nodes.proofs.Nodes.{cond-ind, place-grows, onward-graph}
+use Rattle.nodes.specs.Columns.{whole, graph}
+use Rattle.nodes.specs.Lent.{Met}
+use Rattle.nodes.proofs.Nodes.{cond-ind, place-grows, onward-first}
 use Rattle.scan.specs.Walk.{Way, room, find-on, place-on, next, step, walk}
 
 pub room-ahead : (d i n : ℕ) → d % 2 ≡ 1 → room d i n ≡ n - (i + 1)
@@ -73,14 +73,14 @@ module _ {w : Way} {g₀ : Graph} {start m : ℕ} {g : Graph} {prev k : ℕ} (i 
   pub walk-crowded : k < m → 4096 < step w g prev k .count → 4096 < walk w g₀ start 0 m .count
   walk-crowded h l = rw (← i .rest) (omega (arith, walk-full w g prev k (m - k) (omega arith)))
 
-  module _ (n : ℕ) (nx ny : List ℤ) (nb mk : List ℕ) (j : ℕ) (h : k < m) (p : Met j n (next w g k) (graph n nx ny nb mk) (step w g prev k)) (few : n ≤ 4096) (dir : w .dir < 4) where
-    seen : onward (step w g prev k) (w .dir) (next w g k) ≡ getD nb (j * 4 + w .dir) 0
-    seen = rw (← p .built .same few, ← p .is) (onward-graph n nx ny nb mk (w .dir) j (p .within) dir)
+  module _ (n : ℕ) (l : List ℤ) (j : ℕ) (h : k < m) (p : Met j n (next w g k) (graph n l) (step w g prev k)) (few : n ≤ 4096) (dir : w .dir < 4) where
+    seen : onward (step w g prev k) (w .dir) (next w g k) ≡ onward (whole l) (w .dir) j
+    seen = rw (← p .built .same few, ← p .is) (onward-first n (whole l) (w .dir) j (p .within) dir)
 
-    pub walk-stopped : (getD nb (j * 4 + w .dir) 0 ≡ none → ⊥) → graph n nx ny nb mk ≡ walk w g₀ start 0 m
+    pub walk-stopped : (onward (whole l) (w .dir) j ≡ none → ⊥) → graph n l ≡ walk w g₀ start 0 m
     walk-stopped e = p .built .same few ∙ sym (walk-last w g prev k (m - k) (omega arith) (λ q. e (sym seen ∙ q))) ∙ i .rest
 
-    pub walk-on : getD nb (j * 4 + w .dir) 0 ≡ none → Walking w g₀ start m (graph n nx ny nb mk) j (k + 1)
+    pub walk-on : onward (whole l) (w .dir) j ≡ none → Walking w g₀ start m (graph n l) j (k + 1)
     walk-on e =
         let q : m - (k + 1) ≡ m - k - 1 = omega arith in
         record { reached = omega arith; few = few; inside = p .within; rest = rw (q, p .built .same few, p .is) (sym (walk-more w g prev k (m - k) (omega arith) (seen ∙ e)) ∙ i .rest) }

@@ -1,11 +1,13 @@
--- What the functions are lent: the padded boxes, the axis lists and the anchors, as columns.
+-- What the functions are lent: the padded boxes, the axis lists and the anchors, as lists of columns.
 use mathlib.Core.Bool.{cond}
 use mathlib.Core.List.{List}
-use Prim.Native.Nat.{ℕ, zero, suc, _≤_}
+use Prim.Native.Nat.{ℕ, zero, suc, _≤_, _*_}
 use lib.Dec.{ltb}
 use lib.IntN.{ℤ}
 use lib.ListN.{length}
+use Rattle.fixed.specs.Constants.{BOXES, COORDS, PADDED-WORDS}
 use Rattle.fixed.specs.Up.{ups}
+use Rattle.fixed.specs.Columns.{column}
 use Rattle.sightline.specs.Sight.{Rising}
 use Rattle.sightline.specs.declared.Direction.{Direction}
 use Rattle.sightline.specs.declared.Direction.the-variants.{PosX, NegX, PosY, NegY}
@@ -27,25 +29,18 @@ follow d ax ay = cond (ltb d 2) ax ay
 abbrev pub way : ℕ → ℕ → List ℤ → ℕ → Way
 way d across axis from = record { dir = d; across = across; axis = ups axis; from = from }
 
-abbrev pub page : List ℤ → List ℤ → List ℤ → List ℤ → ℕ → List ℤ → List ℤ → Page
-page bx by ex ey n ax ay =
-    record { min-x = ups bx; min-y = ups by; max-x = ups ex; max-y = ups ey; boxes = n; axis-x = ups ax; axis-y = ups ay }
+-- the boxes: four columns of 64, least x, least y, greatest x, greatest y
+abbrev pub page : List ℤ → ℕ → List ℤ → List ℤ → Page
+page boxes n ax ay =
+    record { min-x = column 0 n boxes; min-y = column BOXES n boxes; max-x = column (BOXES * 2) n boxes; max-y = column (BOXES * 3) n boxes; boxes = n; axis-x = ups ax; axis-y = ups ay }
 
-abbrev pub anchors : List ℤ → List ℤ → List ℕ → List ℕ → ℕ → ℕ → Anchors
-anchors xs ys dirs boxes explicit n = record { xs = ups xs; ys = ups ys; dirs = dirs; boxes = boxes; explicit = explicit; count = n }
+-- the anchors: four columns of 2,560, x, y, directions, the box that it ignores
+abbrev pub anchors : List ℤ → ℕ → ℕ → Anchors
+anchors l explicit n = record { xs = column 0 n l; ys = column COORDS n l; dirs = column (COORDS * 2) n l; boxes = column (COORDS * 3) n l; explicit = explicit; count = n }
 
--- each list has the n boxes, and the axis lists rise
-pub record Paged (bx by ex ey : List ℤ) (n : ℕ) (ax ay : List ℤ) : Type 0 where
-  pub bx-held : n ≤ length bx
-  pub by-held : n ≤ length by
-  pub ex-held : n ≤ length ex
-  pub ey-held : n ≤ length ey
+-- the list has the n boxes, and the axis lists rise
+pub record Paged (boxes : List ℤ) (n : ℕ) (ax ay : List ℤ) : Type 0 where
+  pub few : n ≤ BOXES
+  pub held : PADDED-WORDS ≤ length boxes
   pub x-rising : Rising (ups ax)
   pub y-rising : Rising (ups ay)
-
--- each list has the n anchors
-pub record Anchored (xs ys : List ℤ) (dirs boxes : List ℕ) (n : ℕ) : Type 0 where
-  pub xs-held : n ≤ length xs
-  pub ys-held : n ≤ length ys
-  pub dirs-held : n ≤ length dirs
-  pub boxes-held : n ≤ length boxes

@@ -1,16 +1,20 @@
 // Scans over the axis lists, and the graph that they build.
 ghost use mathlib.Core.Path.{_≡_};
-ghost use Prim.Native.Nat.{_+_, _<_, _≤_};
+ghost use Prim.Native.Nat.{_+_, _*_, _<_, _≤_};
 ghost use lib.ListN.{length};
+ghost use Rattle.fixed.specs.Seen.{old, new};
+ghost use Rattle.fixed.specs.Constants.{BOXES, COORDS, PADDED-WORDS, ANCHOR-WORDS};
 ghost use Rattle.fixed.specs.Up.{ups};
 ghost use Rattle.sightline.specs.Sight.{Rising};
-ghost use Rattle.sightline.specs.Lent.{Held, line};
-ghost use Rattle.nodes.specs.Graph.{NODES, find};
-ghost use Rattle.nodes.specs.Lent.{graph, Roomy, Built, Met};
+ghost use Rattle.fixed.specs.Columns.{column};
+ghost use Rattle.sightline.specs.Lent.{line};
+ghost use Rattle.nodes.specs.Graph.{NODES};
+ghost use Rattle.nodes.specs.Columns.{GRAPH-WORDS, graphIn, graphOut};
+ghost use Rattle.nodes.specs.Lent.{Built, Met};
 ghost use Rattle.nodes.specs.Map.{Keyed};
 ghost use Rattle.scan.specs.Walk.{along, room, find-on, place-on, next, step, walk, reach};
 ghost use Rattle.scan.specs.Scan.{has, extent, toward, scans, scan-anchor, scan-at, mark, build-nodes, build};
-ghost use Rattle.scan.specs.Lent.{direction, follow, way, page, Paged, anchors as anchors-of, Anchored};
+ghost use Rattle.scan.specs.Lent.{direction, follow, way, page, Paged, anchors as anchors-of};
 use sightline::Direction;
 
 // All four directions, and the mark of an explicit node.
@@ -37,7 +41,7 @@ fn direction(d: usize) -> Direction
 // The coordinate of the step k from the index i.
 fn along(axis: &[i32], d: usize, i: usize, k: usize) -> u32
     requires { ⌜ (i < length (now axis)) × (k < room d i (length (now axis))) ⌝ }
-    ensures { λ r. ⌜ r ≡ along (ups (now (axis .entry))) d i k ⌝ }
+    ensures { λ r. ⌜ r ≡ along (ups (old axis)) d i k ⌝ }
 {
     if d % 2 == 1 {
         return fixed::at(axis, i + (k + 1));
@@ -47,35 +51,29 @@ fn along(axis: &[i32], d: usize, i: usize, k: usize) -> u32
 
 // The node at the coordinate c along d, and at `across` on the other axis.
 fn place_on(
-    xs: &mut [i32],
-    ys: &mut [i32],
-    links: &mut [u32],
-    marks: &mut [u32],
+    nodes: &mut [i32],
     map: &mut [u32],
     n: usize,
     d: usize,
     across: u32,
     c: u32,
 ) -> nodes::Spot
-    requires { ⌜ Roomy (now xs) (now ys) (now links) (now marks) ⌝ }
+    requires { ⌜ GRAPH-WORDS ≤ length (now nodes) ⌝ }
     requires { ⌜ n ≤ NODES ⌝ }
-    requires { ⌜ Keyed (now map) (now xs) (now ys) n ⌝ }
-    ensures { λ r. ⌜ Met (r .index) (r .count) (find-on (graph n (now (xs .entry)) (now (ys .entry)) (now (links .entry)) (now (marks .entry))) d across c) (graph (r .count) (now (xs .exit)) (now (ys .exit)) (now (links .exit)) (now (marks .exit))) (place-on (graph n (now (xs .entry)) (now (ys .entry)) (now (links .entry)) (now (marks .entry))) d across c) ⌝ }
-    ensures { λ r. ⌜ Keyed (now (map .exit)) (now (xs .exit)) (now (ys .exit)) (r .count) ⌝ }
+    requires { ⌜ Keyed (now map) (now nodes) n ⌝ }
+    ensures { λ r. ⌜ Met (r .index) (r .count) (find-on (graphIn n nodes) d across c) (graphOut (r .count) nodes) (place-on (graphIn n nodes) d across c) ⌝ }
+    ensures { λ r. ⌜ Keyed (new map) (new nodes) (r .count) ⌝ }
 {
     if d < 2 {
-        return nodes::place(xs, ys, links, marks, map, n, c, across, ALL);
+        return nodes::place(nodes, map, n, c, across, ALL);
     }
-    nodes::place(xs, ys, links, marks, map, n, across, c, ALL)
+    nodes::place(nodes, map, n, across, c, ALL)
 }
 
 // The step k of a scan: the node there is met or made, and linked with the one before.
 fn step(
     axis: &[i32],
-    xs: &mut [i32],
-    ys: &mut [i32],
-    links: &mut [u32],
-    marks: &mut [u32],
+    nodes: &mut [i32],
     map: &mut [u32],
     n: usize,
     d: usize,
@@ -84,15 +82,15 @@ fn step(
     prev: usize,
     k: usize,
 ) -> nodes::Spot
-    requires { ⌜ Roomy (now xs) (now ys) (now links) (now marks) ⌝ }
+    requires { ⌜ GRAPH-WORDS ≤ length (now nodes) ⌝ }
     requires { ⌜ (n ≤ NODES) × (prev < n) × (d < 4) ⌝ }
     requires { ⌜ (from < length (now axis)) × (k < room d from (length (now axis))) ⌝ }
-    requires { ⌜ Keyed (now map) (now xs) (now ys) n ⌝ }
-    ensures { λ r. ⌜ Met (r .index) (r .count) (next (way d across (now (axis .entry)) from) (graph n (now (xs .entry)) (now (ys .entry)) (now (links .entry)) (now (marks .entry))) k) (graph (r .count) (now (xs .exit)) (now (ys .exit)) (now (links .exit)) (now (marks .exit))) (step (way d across (now (axis .entry)) from) (graph n (now (xs .entry)) (now (ys .entry)) (now (links .entry)) (now (marks .entry))) prev k) ⌝ }
-    ensures { λ r. ⌜ Keyed (now (map .exit)) (now (xs .exit)) (now (ys .exit)) (r .count) ⌝ }
+    requires { ⌜ Keyed (now map) (now nodes) n ⌝ }
+    ensures { λ r. ⌜ Met (r .index) (r .count) (next (way d across (old axis) from) (graphIn n nodes) k) (graphOut (r .count) nodes) (step (way d across (old axis) from) (graphIn n nodes) prev k) ⌝ }
+    ensures { λ r. ⌜ Keyed (new map) (new nodes) (r .count) ⌝ }
 {
     let c = along(axis, d, from, k);
-    let s = place_on(xs, ys, links, marks, map, n, d, across, c);
+    let s = place_on(nodes, map, n, d, across, c);
     let j = s.index;
     let count = s.count;
     if nodes::NODES < count {
@@ -101,7 +99,7 @@ fn step(
             count: count,
         };
     }
-    nodes::link(links, d, prev, j);
+    nodes::link(nodes, d, prev, j);
     nodes::Spot {
         index: j,
         count: count,
@@ -111,10 +109,7 @@ fn step(
 // At most m steps; it ends at a node that has a link onward.
 fn walk(
     axis: &[i32],
-    xs: &mut [i32],
-    ys: &mut [i32],
-    links: &mut [u32],
-    marks: &mut [u32],
+    nodes: &mut [i32],
     map: &mut [u32],
     n: usize,
     d: usize,
@@ -123,37 +118,24 @@ fn walk(
     start: usize,
     m: usize,
 ) -> usize
-    requires { ⌜ Roomy (now xs) (now ys) (now links) (now marks) ⌝ }
+    requires { ⌜ GRAPH-WORDS ≤ length (now nodes) ⌝ }
     requires { ⌜ (n ≤ NODES) × (start < n) × (d < 4) ⌝ }
     requires { ⌜ (from < length (now axis)) × (m ≤ room d from (length (now axis))) ⌝ }
-    requires { ⌜ Keyed (now map) (now xs) (now ys) n ⌝ }
-    ensures { λ r. ⌜ Built r (graph r (now (xs .exit)) (now (ys .exit)) (now (links .exit)) (now (marks .exit))) (walk (way d across (now (axis .entry)) from) (graph n (now (xs .entry)) (now (ys .entry)) (now (links .entry)) (now (marks .entry))) start 0 m) ⌝ }
-    ensures { λ r. ⌜ Keyed (now (map .exit)) (now (xs .exit)) (now (ys .exit)) r ⌝ }
+    requires { ⌜ Keyed (now map) (now nodes) n ⌝ }
+    ensures { λ r. ⌜ Built r (graphOut r nodes) (walk (way d across (old axis) from) (graphIn n nodes) start 0 m) ⌝ }
+    ensures { λ r. ⌜ Keyed (new map) (new nodes) r ⌝ }
 {
     let mut count = n;
     let mut prev = start;
     let mut k = 0;
     while k < m {
-        let s = step(
-            axis,
-            xs,
-            ys,
-            links,
-            marks,
-            map,
-            count,
-            d,
-            from,
-            across,
-            prev,
-            k,
-        );
+        let s = step(axis, nodes, map, count, d, from, across, prev, k);
         count = s.count;
         prev = s.index;
         if nodes::NODES < count {
             return count;
         }
-        if links[prev * 4 + d] != nodes::NONE {
+        if nodes::link_of(nodes, prev, d) != nodes::NOWHERE {
             return count;
         }
         k += 1;
@@ -163,11 +145,9 @@ fn walk(
 
 // How many coordinates next to the anchor, at the index i of the list that the direction d follows, are clear.
 fn reach<'a>(
-    low: &[i32],
-    high: &[i32],
-    from: &[i32],
-    to: &[i32],
-    boxes: usize,
+    boxes: &[i32],
+    b: usize,
+    s: usize,
     across: u32,
     anchor: u32,
     ax: &'a [i32],
@@ -176,41 +156,16 @@ fn reach<'a>(
     i: usize,
     ignore: usize,
 ) -> usize
-    requires { ⌜ Held boxes (now low) (now high) (now from) (now to) ⌝ }
+    requires { ⌜ (s < 2) × (b ≤ BOXES) × (PADDED-WORDS ≤ length (now boxes)) ⌝ }
     requires { ⌜ Rising (ups (follow d (now ax) (now ay))) ⌝ }
     requires { ⌜ (d < 4) × (i < length (follow d (now ax) (now ay))) ⌝ }
-    ensures { λ r. ⌜ r ≡ reach (line (now (low .entry)) (now (high .entry)) (now (from .entry)) (now (to .entry)) boxes across ignore) anchor d (ups (follow d (now (ax .entry)) (now (ay .entry)))) i ⌝ }
+    ensures { λ r. ⌜ r ≡ reach (line (old boxes) b s across ignore) anchor d (ups (follow d (old ax) (old ay))) i ⌝ }
 {
     let part = sightline::beyond(ax, ay, direction(d), i);
     if d % 2 == 1 {
-        return sightline::cutoff(
-            low,
-            high,
-            from,
-            to,
-            boxes,
-            across,
-            anchor,
-            part,
-            0,
-            ignore,
-            true,
-        );
+        return sightline::cutoff(boxes, b, s, across, anchor, part, 0, ignore, true);
     }
-    i
-        - sightline::cutoff(
-            low,
-            high,
-            from,
-            to,
-            boxes,
-            across,
-            anchor,
-            part,
-            0,
-            ignore,
-            false,
-        )
+    i - sightline::cutoff(boxes, b, s, across, anchor, part, 0, ignore, false)
 }
 
 // Whether the direction d is among dirs.
@@ -231,11 +186,8 @@ fn has(dirs: u32, d: usize) -> bool
 
 // How far the scan of an anchor goes in the direction d: nowhere if that is not among its directions.
 fn extent<'a>(
-    bx: &[i32],
-    by: &[i32],
-    ex: &[i32],
-    ey: &[i32],
-    boxes: usize,
+    boxes: &[i32],
+    b: usize,
     ax: &'a [i32],
     ay: &'a [i32],
     x: u32,
@@ -246,32 +198,26 @@ fn extent<'a>(
     j: usize,
     d: usize,
 ) -> usize
-    requires { ⌜ Paged (now bx) (now by) (now ex) (now ey) boxes (now ax) (now ay) ⌝ }
+    requires { ⌜ Paged (now boxes) b (now ax) (now ay) ⌝ }
     requires { ⌜ (d < 4) × (i < length (now ax)) × (j < length (now ay)) ⌝ }
-    ensures { λ r. ⌜ r ≡ extent (page (now (bx .entry)) (now (by .entry)) (now (ex .entry)) (now (ey .entry)) boxes (now (ax .entry)) (now (ay .entry))) (record { x = x; y = y; dirs = dirs; box = ignore }) i j d ⌝ }
+    ensures { λ r. ⌜ r ≡ extent (page (old boxes) b (old ax) (old ay)) (record { x = x; y = y; dirs = dirs; box = ignore }) i j d ⌝ }
 {
     if has(dirs, d) {
         if d < 2 {
-            return reach(by, ey, bx, ex, boxes, y, x, ax, ay, d, i, ignore);
+            return reach(boxes, b, 1, y, x, ax, ay, d, i, ignore);
         }
-        return reach(bx, ex, by, ey, boxes, x, y, ax, ay, d, j, ignore);
+        return reach(boxes, b, 0, x, y, ax, ay, d, j, ignore);
     }
     0
 }
 
 // The scan of an anchor in the direction d, if that is among its directions.
 fn toward<'a>(
-    bx: &[i32],
-    by: &[i32],
-    ex: &[i32],
-    ey: &[i32],
-    boxes: usize,
+    boxes: &[i32],
+    b: usize,
     ax: &'a [i32],
     ay: &'a [i32],
-    xs: &mut [i32],
-    ys: &mut [i32],
-    links: &mut [u32],
-    marks: &mut [u32],
+    nodes: &mut [i32],
     map: &mut [u32],
     n: usize,
     x: u32,
@@ -283,33 +229,27 @@ fn toward<'a>(
     j: usize,
     d: usize,
 ) -> usize
-    requires { ⌜ Paged (now bx) (now by) (now ex) (now ey) boxes (now ax) (now ay) ⌝ }
-    requires { ⌜ Roomy (now xs) (now ys) (now links) (now marks) ⌝ }
+    requires { ⌜ Paged (now boxes) b (now ax) (now ay) ⌝ }
+    requires { ⌜ GRAPH-WORDS ≤ length (now nodes) ⌝ }
     requires { ⌜ (n ≤ NODES) × (node < n) × (d < 4) × (i < length (now ax)) × (j < length (now ay)) ⌝ }
-    requires { ⌜ Keyed (now map) (now xs) (now ys) n ⌝ }
-    ensures { λ r. ⌜ Built r (graph r (now (xs .exit)) (now (ys .exit)) (now (links .exit)) (now (marks .exit))) (toward (page (now (bx .entry)) (now (by .entry)) (now (ex .entry)) (now (ey .entry)) boxes (now (ax .entry)) (now (ay .entry))) (record { x = x; y = y; dirs = dirs; box = ignore }) node i j d (graph n (now (xs .entry)) (now (ys .entry)) (now (links .entry)) (now (marks .entry)))) ⌝ }
-    ensures { λ r. ⌜ Keyed (now (map .exit)) (now (xs .exit)) (now (ys .exit)) r ⌝ }
+    requires { ⌜ Keyed (now map) (now nodes) n ⌝ }
+    ensures { λ r. ⌜ Built r (graphOut r nodes) (toward (page (old boxes) b (old ax) (old ay)) (record { x = x; y = y; dirs = dirs; box = ignore }) node i j d (graphIn n nodes)) ⌝ }
+    ensures { λ r. ⌜ Keyed (new map) (new nodes) r ⌝ }
 {
-    let m = extent(bx, by, ex, ey, boxes, ax, ay, x, y, dirs, ignore, i, j, d);
+    let m = extent(boxes, b, ax, ay, x, y, dirs, ignore, i, j, d);
     if d < 2 {
-        return walk(ax, xs, ys, links, marks, map, n, d, i, y, node, m);
+        return walk(ax, nodes, map, n, d, i, y, node, m);
     }
-    walk(ay, xs, ys, links, marks, map, n, d, j, x, node, m)
+    walk(ay, nodes, map, n, d, j, x, node, m)
 }
 
 // The scans of an anchor in its directions.
 fn scans<'a>(
-    bx: &[i32],
-    by: &[i32],
-    ex: &[i32],
-    ey: &[i32],
-    boxes: usize,
+    boxes: &[i32],
+    b: usize,
     ax: &'a [i32],
     ay: &'a [i32],
-    xs: &mut [i32],
-    ys: &mut [i32],
-    links: &mut [u32],
-    marks: &mut [u32],
+    nodes: &mut [i32],
     map: &mut [u32],
     n: usize,
     x: u32,
@@ -320,28 +260,22 @@ fn scans<'a>(
     i: usize,
     j: usize,
 ) -> usize
-    requires { ⌜ Paged (now bx) (now by) (now ex) (now ey) boxes (now ax) (now ay) ⌝ }
-    requires { ⌜ Roomy (now xs) (now ys) (now links) (now marks) ⌝ }
+    requires { ⌜ Paged (now boxes) b (now ax) (now ay) ⌝ }
+    requires { ⌜ GRAPH-WORDS ≤ length (now nodes) ⌝ }
     requires { ⌜ (n ≤ NODES) × (node < n) × (i < length (now ax)) × (j < length (now ay)) ⌝ }
-    requires { ⌜ Keyed (now map) (now xs) (now ys) n ⌝ }
-    ensures { λ r. ⌜ Built r (graph r (now (xs .exit)) (now (ys .exit)) (now (links .exit)) (now (marks .exit))) (scans (page (now (bx .entry)) (now (by .entry)) (now (ex .entry)) (now (ey .entry)) boxes (now (ax .entry)) (now (ay .entry))) (record { x = x; y = y; dirs = dirs; box = ignore }) node i j (graph n (now (xs .entry)) (now (ys .entry)) (now (links .entry)) (now (marks .entry)))) ⌝ }
-    ensures { λ r. ⌜ Keyed (now (map .exit)) (now (xs .exit)) (now (ys .exit)) r ⌝ }
+    requires { ⌜ Keyed (now map) (now nodes) n ⌝ }
+    ensures { λ r. ⌜ Built r (graphOut r nodes) (scans (page (old boxes) b (old ax) (old ay)) (record { x = x; y = y; dirs = dirs; box = ignore }) node i j (graphIn n nodes)) ⌝ }
+    ensures { λ r. ⌜ Keyed (new map) (new nodes) r ⌝ }
 {
     let mut count = n;
     let mut d = 0;
     while d < 4 {
         count = toward(
-            bx,
-            by,
-            ex,
-            ey,
             boxes,
+            b,
             ax,
             ay,
-            xs,
-            ys,
-            links,
-            marks,
+            nodes,
             map,
             count,
             x,
@@ -363,17 +297,11 @@ fn scans<'a>(
 
 // The scans of an anchor that has a node and stands on both axis lists.
 fn scan_anchor<'a>(
-    bx: &[i32],
-    by: &[i32],
-    ex: &[i32],
-    ey: &[i32],
-    boxes: usize,
+    boxes: &[i32],
+    b: usize,
     ax: &'a [i32],
     ay: &'a [i32],
-    xs: &mut [i32],
-    ys: &mut [i32],
-    links: &mut [u32],
-    marks: &mut [u32],
+    nodes: &mut [i32],
     map: &mut [u32],
     n: usize,
     x: u32,
@@ -381,31 +309,25 @@ fn scan_anchor<'a>(
     dirs: u32,
     ignore: usize,
 ) -> usize
-    requires { ⌜ Paged (now bx) (now by) (now ex) (now ey) boxes (now ax) (now ay) ⌝ }
-    requires { ⌜ Roomy (now xs) (now ys) (now links) (now marks) ⌝ }
+    requires { ⌜ Paged (now boxes) b (now ax) (now ay) ⌝ }
+    requires { ⌜ GRAPH-WORDS ≤ length (now nodes) ⌝ }
     requires { ⌜ n ≤ NODES ⌝ }
-    requires { ⌜ Keyed (now map) (now xs) (now ys) n ⌝ }
-    ensures { λ r. ⌜ Built r (graph r (now (xs .exit)) (now (ys .exit)) (now (links .exit)) (now (marks .exit))) (scan-anchor (page (now (bx .entry)) (now (by .entry)) (now (ex .entry)) (now (ey .entry)) boxes (now (ax .entry)) (now (ay .entry))) (record { x = x; y = y; dirs = dirs; box = ignore }) (graph n (now (xs .entry)) (now (ys .entry)) (now (links .entry)) (now (marks .entry)))) ⌝ }
-    ensures { λ r. ⌜ Keyed (now (map .exit)) (now (xs .exit)) (now (ys .exit)) r ⌝ }
+    requires { ⌜ Keyed (now map) (now nodes) n ⌝ }
+    ensures { λ r. ⌜ Built r (graphOut r nodes) (scan-anchor (page (old boxes) b (old ax) (old ay)) (record { x = x; y = y; dirs = dirs; box = ignore }) (graphIn n nodes)) ⌝ }
+    ensures { λ r. ⌜ Keyed (new map) (new nodes) r ⌝ }
 {
-    let node = nodes::look_up(map, xs, ys, n, x, y);
+    let node = nodes::look_up(map, nodes, n, x, y);
     let i = axis::index(ax, x);
     let j = axis::index(ay, y);
     if node < n {
         if i < ax.len() {
             if j < ay.len() {
                 return scans(
-                    bx,
-                    by,
-                    ex,
-                    ey,
                     boxes,
+                    b,
                     ax,
                     ay,
-                    xs,
-                    ys,
-                    links,
-                    marks,
+                    nodes,
                     map,
                     n,
                     x,
@@ -425,97 +347,67 @@ fn scan_anchor<'a>(
 }
 
 // The mark of the node that the anchor k makes.
-fn mark(dirs: &[u32], explicit: usize, k: usize) -> u32
-    requires { ⌜ k < length (now dirs) ⌝ }
-    ensures { λ r. ⌜ r ≡ mark (now (dirs .entry)) explicit k ⌝ }
+fn mark(anchors: &[i32], explicit: usize, a: usize, k: usize) -> u32
+    requires { ⌜ (k < a) × (a ≤ COORDS) × (ANCHOR-WORDS ≤ length (now anchors)) ⌝ }
+    ensures { λ r. ⌜ r ≡ mark (column (COORDS * 2) a (old anchors)) explicit k ⌝ }
 {
+    let dirs = fixed::word(anchors, fixed::ANCHOR_DIRS, a, k);
     if k < explicit {
-        return dirs[k] | EXPLICIT;
+        return dirs | EXPLICIT;
     }
-    dirs[k]
+    dirs
 }
 
 // The scans of the anchor k.
 fn scan_at<'a>(
-    bx: &[i32],
-    by: &[i32],
-    ex: &[i32],
-    ey: &[i32],
-    boxes: usize,
+    boxes: &[i32],
+    b: usize,
     ax: &'a [i32],
     ay: &'a [i32],
-    cx: &[i32],
-    cy: &[i32],
-    dirs: &[u32],
-    own: &[u32],
+    anchors: &[i32],
     explicit: usize,
-    anchors: usize,
-    xs: &mut [i32],
-    ys: &mut [i32],
-    links: &mut [u32],
-    marks: &mut [u32],
+    a: usize,
+    nodes: &mut [i32],
     map: &mut [u32],
     n: usize,
     k: usize,
 ) -> usize
-    requires { ⌜ Paged (now bx) (now by) (now ex) (now ey) boxes (now ax) (now ay) ⌝ }
-    requires { ⌜ Anchored (now cx) (now cy) (now dirs) (now own) anchors ⌝ }
-    requires { ⌜ Roomy (now xs) (now ys) (now links) (now marks) ⌝ }
-    requires { ⌜ (n ≤ NODES) × (k < anchors) ⌝ }
-    requires { ⌜ Keyed (now map) (now xs) (now ys) n ⌝ }
-    ensures { λ r. ⌜ Built r (graph r (now (xs .exit)) (now (ys .exit)) (now (links .exit)) (now (marks .exit))) (scan-at (page (now (bx .entry)) (now (by .entry)) (now (ex .entry)) (now (ey .entry)) boxes (now (ax .entry)) (now (ay .entry))) (anchors-of (now (cx .entry)) (now (cy .entry)) (now (dirs .entry)) (now (own .entry)) explicit anchors) k (graph n (now (xs .entry)) (now (ys .entry)) (now (links .entry)) (now (marks .entry)))) ⌝ }
-    ensures { λ r. ⌜ Keyed (now (map .exit)) (now (xs .exit)) (now (ys .exit)) r ⌝ }
+    requires { ⌜ Paged (now boxes) b (now ax) (now ay) ⌝ }
+    requires { ⌜ (a ≤ COORDS) × (ANCHOR-WORDS ≤ length (now anchors)) ⌝ }
+    requires { ⌜ GRAPH-WORDS ≤ length (now nodes) ⌝ }
+    requires { ⌜ (n ≤ NODES) × (k < a) ⌝ }
+    requires { ⌜ Keyed (now map) (now nodes) n ⌝ }
+    ensures { λ r. ⌜ Built r (graphOut r nodes) (scan-at (page (old boxes) b (old ax) (old ay)) (anchors-of (old anchors) explicit a) k (graphIn n nodes)) ⌝ }
+    ensures { λ r. ⌜ Keyed (new map) (new nodes) r ⌝ }
 {
-    let x = fixed::at(cx, k);
-    let y = fixed::at(cy, k);
-    scan_anchor(
-        bx,
-        by,
-        ex,
-        ey,
-        boxes,
-        ax,
-        ay,
-        xs,
-        ys,
-        links,
-        marks,
-        map,
-        n,
-        x,
-        y,
-        dirs[k],
-        own[k] as usize,
-    )
+    let x = fixed::word(anchors, 0, a, k);
+    let y = fixed::word(anchors, fixed::ANCHOR_Y, a, k);
+    let dirs = fixed::word(anchors, fixed::ANCHOR_DIRS, a, k);
+    let own = fixed::word(anchors, fixed::ANCHOR_BOX, a, k);
+    scan_anchor(boxes, b, ax, ay, nodes, map, n, x, y, dirs, own as usize)
 }
 
 // A node for each anchor's place.
 pub fn build_nodes(
-    cx: &[i32],
-    cy: &[i32],
-    dirs: &[u32],
-    own: &[u32],
+    anchors: &[i32],
     explicit: usize,
-    anchors: usize,
-    xs: &mut [i32],
-    ys: &mut [i32],
-    links: &mut [u32],
-    marks: &mut [u32],
+    a: usize,
+    nodes: &mut [i32],
     map: &mut [u32],
 ) -> usize
-    requires { ⌜ Anchored (now cx) (now cy) (now dirs) (now own) anchors ⌝ }
-    requires { ⌜ Roomy (now xs) (now ys) (now links) (now marks) ⌝ }
-    requires { ⌜ Keyed (now map) (now xs) (now ys) 0 ⌝ }
-    ensures { λ r. ⌜ Built r (graph r (now (xs .exit)) (now (ys .exit)) (now (links .exit)) (now (marks .exit))) (build-nodes (anchors-of (now (cx .entry)) (now (cy .entry)) (now (dirs .entry)) (now (own .entry)) explicit anchors)) ⌝ }
-    ensures { λ r. ⌜ Keyed (now (map .exit)) (now (xs .exit)) (now (ys .exit)) r ⌝ }
+    requires { ⌜ (a ≤ COORDS) × (ANCHOR-WORDS ≤ length (now anchors)) ⌝ }
+    requires { ⌜ GRAPH-WORDS ≤ length (now nodes) ⌝ }
+    requires { ⌜ Keyed (now map) (now nodes) 0 ⌝ }
+    ensures { λ r. ⌜ Built r (graphOut r nodes) (build-nodes (anchors-of (old anchors) explicit a)) ⌝ }
+    ensures { λ r. ⌜ Keyed (new map) (new nodes) r ⌝ }
 {
     let mut count = 0;
     let mut k = 0;
-    while k < anchors {
-        let x = fixed::at(cx, k);
-        let y = fixed::at(cy, k);
-        let m = mark(dirs, explicit, k);
-        let s = nodes::place(xs, ys, links, marks, map, count, x, y, m);
+    while k < a {
+        let x = fixed::word(anchors, 0, a, k);
+        let y = fixed::word(anchors, fixed::ANCHOR_Y, a, k);
+        let m = mark(anchors, explicit, a, k);
+        let s = nodes::place(nodes, map, count, x, y, m);
         count = s.count;
         if nodes::NODES < count {
             return count;
@@ -527,71 +419,29 @@ pub fn build_nodes(
 
 // The graph, not pruned, by a map of its places, which is empty: how many nodes it has, or more than NODES where it would have more.
 fn build_by<'a>(
-    bx: &[i32],
-    by: &[i32],
-    ex: &[i32],
-    ey: &[i32],
-    boxes: usize,
+    boxes: &[i32],
+    b: usize,
     ax: &'a [i32],
     ay: &'a [i32],
-    cx: &[i32],
-    cy: &[i32],
-    dirs: &[u32],
-    own: &[u32],
+    anchors: &[i32],
     explicit: usize,
-    anchors: usize,
-    xs: &mut [i32],
-    ys: &mut [i32],
-    links: &mut [u32],
-    marks: &mut [u32],
+    a: usize,
+    nodes: &mut [i32],
     map: &mut [u32],
 ) -> usize
-    requires { ⌜ Paged (now bx) (now by) (now ex) (now ey) boxes (now ax) (now ay) ⌝ }
-    requires { ⌜ Anchored (now cx) (now cy) (now dirs) (now own) anchors ⌝ }
-    requires { ⌜ Roomy (now xs) (now ys) (now links) (now marks) ⌝ }
-    requires { ⌜ Keyed (now map) (now xs) (now ys) 0 ⌝ }
-    ensures { λ r. ⌜ Built r (graph r (now (xs .exit)) (now (ys .exit)) (now (links .exit)) (now (marks .exit))) (build (page (now (bx .entry)) (now (by .entry)) (now (ex .entry)) (now (ey .entry)) boxes (now (ax .entry)) (now (ay .entry))) (anchors-of (now (cx .entry)) (now (cy .entry)) (now (dirs .entry)) (now (own .entry)) explicit anchors)) ⌝ }
+    requires { ⌜ Paged (now boxes) b (now ax) (now ay) ⌝ }
+    requires { ⌜ (a ≤ COORDS) × (ANCHOR-WORDS ≤ length (now anchors)) ⌝ }
+    requires { ⌜ GRAPH-WORDS ≤ length (now nodes) ⌝ }
+    requires { ⌜ Keyed (now map) (now nodes) 0 ⌝ }
+    ensures { λ r. ⌜ Built r (graphOut r nodes) (build (page (old boxes) b (old ax) (old ay)) (anchors-of (old anchors) explicit a)) ⌝ }
 {
-    let mut count = build_nodes(
-        cx,
-        cy,
-        dirs,
-        own,
-        explicit,
-        anchors,
-        xs,
-        ys,
-        links,
-        marks,
-        map,
-    );
+    let mut count = build_nodes(anchors, explicit, a, nodes, map);
     if nodes::NODES < count {
         return count;
     }
     let mut k = 0;
-    while k < anchors {
-        count = scan_at(
-            bx,
-            by,
-            ex,
-            ey,
-            boxes,
-            ax,
-            ay,
-            cx,
-            cy,
-            dirs,
-            own,
-            explicit,
-            anchors,
-            xs,
-            ys,
-            links,
-            marks,
-            map,
-            count,
-            k,
-        );
+    while k < a {
+        count = scan_at(boxes, b, ax, ay, anchors, explicit, a, nodes, map, count, k);
         if nodes::NODES < count {
             return count;
         }
@@ -602,48 +452,20 @@ fn build_by<'a>(
 
 // The graph, not pruned: how many nodes it has, or more than NODES where it would have more. The map is made here.
 pub fn build<'a>(
-    bx: &[i32],
-    by: &[i32],
-    ex: &[i32],
-    ey: &[i32],
-    boxes: usize,
+    boxes: &[i32],
+    b: usize,
     ax: &'a [i32],
     ay: &'a [i32],
-    cx: &[i32],
-    cy: &[i32],
-    dirs: &[u32],
-    own: &[u32],
+    anchors: &[i32],
     explicit: usize,
-    anchors: usize,
-    xs: &mut [i32],
-    ys: &mut [i32],
-    links: &mut [u32],
-    marks: &mut [u32],
+    a: usize,
+    nodes: &mut [i32],
 ) -> usize
-    requires { ⌜ Paged (now bx) (now by) (now ex) (now ey) boxes (now ax) (now ay) ⌝ }
-    requires { ⌜ Anchored (now cx) (now cy) (now dirs) (now own) anchors ⌝ }
-    requires { ⌜ Roomy (now xs) (now ys) (now links) (now marks) ⌝ }
-    ensures { λ r. ⌜ Built r (graph r (now (xs .exit)) (now (ys .exit)) (now (links .exit)) (now (marks .exit))) (build (page (now (bx .entry)) (now (by .entry)) (now (ex .entry)) (now (ey .entry)) boxes (now (ax .entry)) (now (ay .entry))) (anchors-of (now (cx .entry)) (now (cy .entry)) (now (dirs .entry)) (now (own .entry)) explicit anchors)) ⌝ }
+    requires { ⌜ Paged (now boxes) b (now ax) (now ay) ⌝ }
+    requires { ⌜ (a ≤ COORDS) × (ANCHOR-WORDS ≤ length (now anchors)) ⌝ }
+    requires { ⌜ GRAPH-WORDS ≤ length (now nodes) ⌝ }
+    ensures { λ r. ⌜ Built r (graphOut r nodes) (build (page (old boxes) b (old ax) (old ay)) (anchors-of (old anchors) explicit a)) ⌝ }
 {
     let mut map: [u32; nodes::MAP] = [0; nodes::MAP];
-    build_by(
-        bx,
-        by,
-        ex,
-        ey,
-        boxes,
-        ax,
-        ay,
-        cx,
-        cy,
-        dirs,
-        own,
-        explicit,
-        anchors,
-        xs,
-        ys,
-        links,
-        marks,
-        &mut map,
-    )
+    build_by(boxes, b, ax, ay, anchors, explicit, a, nodes, &mut map)
 }

@@ -1,8 +1,9 @@
 // Shows sightlines at work: a box from x = 100 units is padded to 90, an anchor stands at 0, and each coordinate to its right is told to be clear
 // or blocked.
-ghost use Prim.Native.Nat.{_≤_};
+ghost use Prim.Native.Nat.{_≤_, _<_};
 ghost use lib.ListN.{length};
-ghost use Rattle.sightline.specs.Lent.{Held};
+ghost use Rattle.fixed.specs.Constants.{PADDED-WORDS};
+ghost use Rattle.sightline.specs.Boxes.{Fields};
 
 // The origin of both axes.
 const ORIGIN: u32 = 2147483648;
@@ -21,40 +22,35 @@ fn print(x: u32, clear: bool) {
 }
 
 // Writes each of the coordinates.
-fn show(min_x: &[i32], min_y: &[i32], max_x: &[i32], max_y: &[i32], coords: &[i32])
-    requires { ⌜ Held 1 (now «min_y») (now «max_y») (now «min_x») (now «max_x») ⌝ }
+fn show(boxes: &[i32], coords: &[i32])
+    requires { ⌜ PADDED-WORDS ≤ length (now boxes) ⌝ }
 {
     let mut i = 0;
     while i < coords.len() {
         let x = fixed::at(coords, i);
         print(
             x,
-            sightline::points_have_horizontal_sightline(
-                min_x,
-                min_y,
-                max_x,
-                max_y,
-                1,
-                ORIGIN,
-                ORIGIN,
-                x,
-                1,
-            ),
+            sightline::points_have_horizontal_sightline(boxes, 1, ORIGIN, ORIGIN, x, 1),
         );
         i += 1;
     }
 }
 
+// One padded edge of the first of the rows, in the word a.
+fn pad(boxes: &mut [i32], a: usize, rows: &[u32], field: usize, high: bool)
+    requires { ⌜ a < length (now boxes) ⌝ }
+    requires { ⌜ Fields (now rows) 5 field 1 ⌝ }
+{
+    sightline::pad_edges(&mut boxes[a..], rows, 5, field, high, 1);
+}
+
 fn main() {
     let rows = [1u32, 2147509248, 2147483648, 2147514368, 2147488768];
-    let mut min_x = [0i32; 1];
-    let mut min_y = [0i32; 1];
-    let mut max_x = [0i32; 1];
-    let mut max_y = [0i32; 1];
-    sightline::pad_edges(&mut min_x, &rows, 5, 1, false, 1);
-    sightline::pad_edges(&mut min_y, &rows, 5, 2, false, 1);
-    sightline::pad_edges(&mut max_x, &rows, 5, 3, true, 1);
-    sightline::pad_edges(&mut max_y, &rows, 5, 4, true, 1);
+    let mut boxes = [0i32; fixed::PADDED_WORDS];
+    pad(&mut boxes, 0, &rows, 1, false);
+    pad(&mut boxes, fixed::MIN_Y, &rows, 2, false);
+    pad(&mut boxes, fixed::MAX_X, &rows, 3, true);
+    pad(&mut boxes, fixed::MAX_Y, &rows, 4, true);
     let coords = [256i32, 23039, 23040, 30000];
-    show(&min_x, &min_y, &max_x, &max_y, &coords);
+    show(&boxes, &coords);
 }

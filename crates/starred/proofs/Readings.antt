@@ -40,6 +40,6 @@ use Rattle.book.specs.Book.{roomNumber}
 use Rattle.starred.specs.Readings.{Readings}
 
 pub readings : Readings
-unfolding FixedTrack.track FixedTrack.moved FixedUp.up FixedUp.down FixedUp.ups SightlineBoxes.padded SightlineBoxes.edges SightlineCount.any SightlineCount.run SightlineSight.stops SightlineSight.box-stops SightlineSight.blocked SightlineSight.clear-after SightlineSight.clear-before SightlineSight.pos-cutoff SightlineSight.neg-cutoff SightlineSight.cutoff SightlineSight.passes AxisAxis.rank AxisAxis.index AxisAxis.holds AxisAxis.insert AxisAxis.inserts ZerosZeros.closed CorridorsGrid.covers CorridorsGrid.covered CorridorsGrid.filled CorridorsGrid.last CorridorsGrid.ends-at CorridorsGrid.add-cell CorridorsGrid.with-cell CorridorsGrid.runs CorridorsGrid.row-runs CorridorsGrid.all-runs CorridorsMerge.has CorridorsMerge.swap-remove CorridorsMerge.take-out CorridorsMerge.yield CorridorsMerge.corridor CorridorsMerge.fold CorridorsMerge.row-corridors CorridorsMerge.corridors CorridorsMerge.crossed CorridorsMerge.implicit CorridorsMerge.directions NodesGraph.stands NodesGraph.seek NodesGraph.find NodesGraph.remark NodesGraph.push NodesGraph.place NodesGraph.linked NodesGraph.link ScanScan.fold ScanScan.has ScanScan.toward ScanScan.extent ScanScan.scans ScanScan.scan-anchor ScanScan.mark ScanScan.place-anchor ScanScan.scan-at ScanScan.build-nodes ScanScan.build ScanWalk.along ScanWalk.room ScanWalk.find-on ScanWalk.place-on ScanWalk.next ScanWalk.step ScanWalk.walk ScanWalk.reach ScanWalk.scan PrunePrune.only PrunePrune.straight PrunePrune.moved-links PrunePrune.moved PrunePrune.back PrunePrune.backs PrunePrune.relink PrunePrune.shrink PrunePrune.drop-node PrunePrune.join PrunePrune.prune-by PrunePrune.prune-at PrunePrune.prune-from PrunePrune.prune AnchorsExplicit.push AnchorsExplicit.takes AnchorsExplicit.ways AnchorsExplicit.ignored AnchorsExplicit.with-row AnchorsExplicit.with-key AnchorsExplicit.with-keys AnchorsExplicit.port-anchors AnchorsExplicit.explicit GraphBuild.whole GraphBuild.made PageGraphPage.padded-boxes PageGraphPage.implicit PageGraphPage.then-implicit PageGraphPage.all-anchors PageGraphPage.overfull PageGraphPage.boxes-of-page PageGraphPage.anchors-of-page PageGraphPage.crowded PageGraphPage.page-graph PageGraphPage.number QueueQueue.least AstarSearch.distance AstarSearch.nearest AstarSearch.holds AstarSearch.toward AstarSearch.arrives AstarSearch.run-length AstarSearch.MOVES AstarSearch.straight-run AstarSearch.penalty-at AstarSearch.cost AstarSearch.replace AstarSearch.relax AstarSearch.relax-to AstarSearch.expand AstarSearch.run AstarSearch.TURNS AstarSearch.begin AstarSearch.chain AstarSearch.line-of PathFindingLine.has-link PathFindingLine.admit PathFindingLine.goals PathFindingLine.line PathFindingLine.table PathFindingLine.place-at PathFindingLine.kind-at PathFindingLine.bit PathFindingLine.direction-at PathFindingLine.kept-at PathFindingLine.pruned PathFindingPlaces.node-at PathFindingPlaces.known PathFindingPlaces.line-between PathFindingPlaces.number TracksCorridors.rankAt TracksCorridors.keyOf TracksCorridors.insertKey TracksCorridors.lies TracksCorridors.gatherAt TracksCorridors.gatherTo TracksCorridors.gathered TracksExtent.widen TracksExtent.leads TracksExtent.reach TracksExtent.extentOf TracksTracks.clash TracksTracks.marks TracksTracks.firstClear TracksTracks.trackAt TracksTracks.tracksTo FixupMoves.lineMove FixupMoves.cornerMove FixupMoves.rowMove FixupMoves.move FixupMoves.rowStep FixupMoves.moveJunctions FixupMoves.movePair FixupMoves.moveAt FixupMoves.movesTo FixupSeparation.separateAxis FixupSeparation.separateWires WireEnds.putEnd WireEnds.stands WireEnds.firstFrom WireEnds.junctionEnd WireEnds.endDistance WireEnds.nearestEnd WireLines.straight WireLines.kept WireWires.pushVertex WireWires.pushEnd WireWires.pushDummies WireWires.pushStart WireWires.pushStartEnds WireWires.cornerKind WireWires.pushCorner WireWires.pushNode WireWires.pushNodes WireWires.pushVertices WireWires.bent WireWires.fallbackVertices WireWires.pushBend WireWires.pushFallbackWire WireWires.pushFallback RoutingBranches.fits RoutingBranches.lineWire RoutingBranches.fallbackWire RoutingBranches.routeWire RoutingBranches.joinedEnd RoutingBranches.routeBranch RoutingBranches.putJunction RoutingBranches.joinBranch RoutingRoots.slant RoutingRoots.slantOf RoutingRoots.rootTo RoutingRoots.rootPair NetNets.lineOf NetNets.foundLine NetNets.alongAt NetNets.along NetNets.rootWire NetNets.endWord NetNets.branchLine NetNets.branchFrom NetNets.branchAt NetNets.branchesTo NetNets.refused NetNets.noEnds NetNets.routeNet NetNets.kept NetNets.connectNet NetPoints.owns NetPoints.column LayoutAnswer.layoutNumber LayoutAnswer.routed LayoutAnswer.layoutPage LayoutLayout.putNet LayoutLayout.withNet LayoutLayout.netOf LayoutLayout.netsTo LayoutLayout.blank LayoutLayout.parted LayoutLayout.drawn LayoutSeparated.apart LayoutSeparated.separated CorridorsCases.holes CorridorsCases.downs roomNumber
+unfolding FixedTrack.track FixedTrack.moved FixedUp.up FixedUp.down FixedUp.ups SightlineBoxes.padded SightlineBoxes.edges SightlineCount.any SightlineCount.run SightlineSight.stops SightlineSight.box-stops SightlineSight.blocked SightlineSight.clear-after SightlineSight.clear-before SightlineSight.pos-cutoff SightlineSight.neg-cutoff SightlineSight.cutoff SightlineSight.passes AxisAxis.rank AxisAxis.index AxisAxis.holds AxisAxis.insert AxisAxis.inserts ZerosZeros.closed CorridorsGrid.covers CorridorsGrid.covered CorridorsGrid.filled CorridorsGrid.last CorridorsGrid.ends-at CorridorsGrid.add-cell CorridorsGrid.with-cell CorridorsGrid.runs CorridorsGrid.row-runs CorridorsGrid.all-runs CorridorsMerge.has CorridorsMerge.swap-remove CorridorsMerge.take-out CorridorsMerge.yield CorridorsMerge.corridor CorridorsMerge.fold CorridorsMerge.row-corridors CorridorsMerge.corridors CorridorsMerge.crossed CorridorsMerge.implicit CorridorsMerge.directions NodesGraph.stands NodesGraph.seek NodesGraph.find NodesGraph.mark-as NodesGraph.remark NodesGraph.push NodesGraph.place NodesGraph.linked NodesGraph.link ScanScan.fold ScanScan.has ScanScan.toward ScanScan.extent ScanScan.scans ScanScan.scan-anchor ScanScan.mark ScanScan.place-anchor ScanScan.scan-at ScanScan.build-nodes ScanScan.build ScanWalk.along ScanWalk.room ScanWalk.find-on ScanWalk.place-on ScanWalk.next ScanWalk.step ScanWalk.walk ScanWalk.reach ScanWalk.scan PrunePrune.only PrunePrune.straight PrunePrune.moved-links PrunePrune.moved PrunePrune.back PrunePrune.backs PrunePrune.relink PrunePrune.shrink PrunePrune.drop-node PrunePrune.join PrunePrune.prune-by PrunePrune.prune-at PrunePrune.prune-from PrunePrune.prune AnchorsExplicit.push AnchorsExplicit.takes AnchorsExplicit.ways AnchorsExplicit.ignored AnchorsExplicit.with-row AnchorsExplicit.with-key AnchorsExplicit.with-keys AnchorsExplicit.port-anchors AnchorsExplicit.explicit GraphBuild.whole GraphBuild.made PageGraphPage.padded-boxes PageGraphPage.implicit PageGraphPage.then-implicit PageGraphPage.all-anchors PageGraphPage.overfull PageGraphPage.boxes-of-page PageGraphPage.anchors-of-page PageGraphPage.crowded PageGraphPage.page-graph PageGraphPage.graphed QueueQueue.least AstarSearch.distance AstarSearch.nearest AstarSearch.holds AstarSearch.toward AstarSearch.arrives AstarSearch.run-length AstarSearch.MOVES AstarSearch.straight-run AstarSearch.penalty-at AstarSearch.cost AstarSearch.replace AstarSearch.relax AstarSearch.relax-to AstarSearch.expand AstarSearch.run AstarSearch.TURNS AstarSearch.begin AstarSearch.chain AstarSearch.line-of PathFindingLine.has-link PathFindingLine.admit PathFindingLine.goals PathFindingLine.line PathFindingLine.table PathFindingLine.place-at PathFindingLine.kind-at PathFindingLine.bit PathFindingLine.direction-at PathFindingLine.kept-at PathFindingLine.pruned PathFindingPlaces.node-at PathFindingPlaces.known PathFindingPlaces.line-between PathFindingPlaces.number TracksCorridors.rankAt TracksCorridors.keyOf TracksCorridors.insertKey TracksCorridors.lies TracksCorridors.gatherAt TracksCorridors.gatherTo TracksCorridors.gathered TracksExtent.widen TracksExtent.leads TracksExtent.reach TracksExtent.extentOf TracksTracks.clash TracksTracks.marks TracksTracks.firstClear TracksTracks.trackAt TracksTracks.tracksTo FixupMoves.lineMove FixupMoves.cornerMove FixupMoves.rowMove FixupMoves.move FixupMoves.rowStep FixupMoves.moveJunctions FixupMoves.movePair FixupMoves.moveAt FixupMoves.movesTo FixupSeparation.separateAxis FixupSeparation.separateWires WireEnds.putEnd WireEnds.stands WireEnds.firstFrom WireEnds.junctionEnd WireEnds.endDistance WireEnds.nearestEnd WireLines.straight WireLines.kept WireWires.pushVertex WireWires.pushEnd WireWires.pushDummies WireWires.pushStart WireWires.pushStartEnds WireWires.cornerKind WireWires.pushCorner WireWires.pushNode WireWires.pushNodes WireWires.pushVertices WireWires.bent WireWires.fallbackVertices WireWires.pushBend WireWires.pushFallbackWire WireWires.pushFallback RoutingBranches.fits RoutingBranches.lineWire RoutingBranches.fallbackWire RoutingBranches.routeWire RoutingBranches.joinedEnd RoutingBranches.routeBranch RoutingBranches.putJunction RoutingBranches.joinBranch RoutingRoots.slant RoutingRoots.slantOf RoutingRoots.rootTo RoutingRoots.rootPair NetNets.foundLine NetNets.alongAt NetNets.along NetNets.rootWire NetNets.endWord NetNets.branchLine NetNets.branchFrom NetNets.branchAt NetNets.branchesTo NetNets.refused NetNets.noEnds NetNets.routeNet NetNets.kept NetNets.connectNet NetPoints.owns NetPoints.column LayoutAnswer.layoutNumber LayoutAnswer.routed LayoutAnswer.layoutPage LayoutLayout.putNet LayoutLayout.withNet LayoutLayout.netOf LayoutLayout.netsTo LayoutLayout.blank LayoutLayout.parted LayoutLayout.drawn LayoutSeparated.apart LayoutSeparated.separated CorridorsCases.holes CorridorsCases.downs roomNumber
 readings =
     record { holes-filled = refl; met-is-linked = refl; explicit-first = refl; first-greatest = refl; third-unknown = refl; y-of-end = refl; first-end = refl; dummy-restricted = refl; start-locked = refl; next-is-tried = refl; all-are-separated = refl; last-goes = refl }

@@ -1,11 +1,13 @@
 // The implicit anchors of a page, from the rows of its boxes.
 ghost use mathlib.Core.Path.{_≡_};
 ghost use mathlib.Core.Bool.{true};
-ghost use Prim.Native.Nat.{_≤_, _<_};
+ghost use Prim.Native.Nat.{_+_, _≤_, _<_};
 ghost use lib.ListN.{length};
-ghost use Rattle.fixed.specs.Up.{ups};
+ghost use Rattle.fixed.specs.Constants.{BOXES, PADDED-WORDS, ANCHOR-WORDS};
+ghost use Rattle.fixed.specs.Columns.{column};
 ghost use Rattle.sightline.specs.Boxes.{Fields};
-ghost use Rattle.corridors.specs.Answer.{Inside, Held, Roomy};
+ghost use Rattle.corridors.specs.Sizes.{TABLE, EDGES};
+ghost use Rattle.corridors.specs.Answer.{Inside};
 
 // The count that says that the boxes are no page's.
 pub const REFUSED: usize = 9999;
@@ -33,14 +35,14 @@ fn are_fields(rows: &[u32], field: usize, n: usize) -> bool
     true
 }
 
-// Whether there is a step beyond each of the first n coordinates.
-fn are_inside(xs: &[i32], n: usize) -> bool
-    requires { ⌜ n ≤ length (now xs) ⌝ }
-    ensures { λ r. ⌜ (r ≡ true → Inside n (ups (now (xs .entry)))) ⌝ }
+// Whether there is a step beyond each of the n coordinates from the word a on.
+fn are_inside(boxes: &[i32], a: usize, n: usize) -> bool
+    requires { ⌜ a + n ≤ length (now boxes) ⌝ }
+    ensures { λ r. ⌜ (r ≡ true → Inside n (column a n (now (boxes .entry)))) ⌝ }
 {
     let mut i = 0;
     while i < n {
-        if fixed::at(xs, i) == 4294967295 {
+        if fixed::at(boxes, a + i) == 4294967295 {
             return false;
         }
         i += 1;
@@ -48,101 +50,68 @@ fn are_inside(xs: &[i32], n: usize) -> bool
     true
 }
 
-// One padded edge of the first n boxes; false if there is none.
-fn pad(edges: &mut [i32], rows: &[u32], field: usize, high: bool, n: usize) -> bool
-    requires { ⌜ (field < 5) × (n ≤ 64) × (n ≤ length (now edges)) ⌝ }
+// One padded edge of the first n boxes, from the word a on; false if there is none.
+fn pad(boxes: &mut [i32], a: usize, rows: &[u32], field: usize, high: bool, n: usize) -> bool
+    requires { ⌜ (field < 5) × (n ≤ BOXES) × (a + n ≤ length (now boxes)) ⌝ }
 {
     if !are_fields(rows, field, n) {
         return false;
     }
-    sightline::pad_edges(edges, rows, 5, field, high, n);
+    sightline::pad_edges(&mut boxes[a..], rows, 5, field, high, n);
     true
 }
 
 // The padded edges of the first n boxes; false if there are none.
-fn pad_boxes(
-    left: &mut [i32],
-    right: &mut [i32],
-    low: &mut [i32],
-    high: &mut [i32],
-    rows: &[u32],
-    n: usize,
-) -> bool
-    requires { ⌜ Held n (now left) (now right) (now low) (now high) × (n ≤ 64) ⌝ }
+fn pad_boxes(boxes: &mut [i32], rows: &[u32], n: usize) -> bool
+    requires { ⌜ (n ≤ BOXES) × (PADDED-WORDS ≤ length (now boxes)) ⌝ }
 {
-    let l = pad(left, rows, 1, false, n);
-    let d = pad(low, rows, 2, false, n);
-    let r = pad(right, rows, 3, true, n);
-    let u = pad(high, rows, 4, true, n);
+    let l = pad(boxes, 0, rows, 1, false, n);
+    let d = pad(boxes, fixed::MIN_Y, rows, 2, false, n);
+    let r = pad(boxes, fixed::MAX_X, rows, 3, true, n);
+    let u = pad(boxes, fixed::MAX_Y, rows, 4, true, n);
     l & d & r & u
 }
 
-// The implicit anchors between n padded boxes: how many there are, or corridors::CROWDED, or REFUSED.
+// The implicit anchors between n padded boxes: how many there are, or more than corridors::ANCHORS, or REFUSED.
 fn between(
-    left: &[i32],
-    right: &[i32],
-    low: &[i32],
-    high: &[i32],
+    boxes: &[i32],
     n: usize,
     table: &mut [u32],
     xs: &mut [i32],
     ys: &mut [i32],
-    ax: &mut [i32],
-    ay: &mut [i32],
-    ways: &mut [u32],
+    list: &mut [i32],
 ) -> usize
-    requires { ⌜ Held n (now left) (now right) (now low) (now high) × (n ≤ 64) ⌝ }
-    requires { ⌜ Roomy (now table) (now ax) (now ay) × (128 ≤ length (now xs)) × (128 ≤ length (now ys)) × (2048 ≤ length (now ways)) ⌝ }
+    requires { ⌜ (n ≤ BOXES) × (PADDED-WORDS ≤ length (now boxes)) ⌝ }
+    requires { ⌜ (TABLE ≤ length (now table)) × (EDGES ≤ length (now xs)) × (EDGES ≤ length (now ys)) × (ANCHOR-WORDS ≤ length (now list)) ⌝ }
 {
-    if !are_inside(left, n) {
+    if !are_inside(boxes, 0, n) {
         return REFUSED;
     }
-    if !are_inside(right, n) {
+    if !are_inside(boxes, fixed::MIN_Y, n) {
         return REFUSED;
     }
-    if !are_inside(low, n) {
+    if !are_inside(boxes, fixed::MAX_X, n) {
         return REFUSED;
     }
-    if !are_inside(high, n) {
+    if !are_inside(boxes, fixed::MAX_Y, n) {
         return REFUSED;
     }
-    corridors::generate_implicit_anchors(table, ax, ay, xs, ys, ways, left, right, low, high, n)
+    corridors::generate_implicit_anchors(table, list, 0, xs, ys, boxes, n)
 }
 
-// The implicit anchors of n boxes: how many there are, or corridors::CROWDED, or REFUSED.
-pub fn implicit_anchors(
-    rows: &[u32],
-    n: usize,
-    ax: &mut [i32],
-    ay: &mut [i32],
-    ways: &mut [u32],
-) -> usize
-    requires { ⌜ (2048 ≤ length (now ax)) × (2048 ≤ length (now ay)) × (2048 ≤ length (now ways)) ⌝ }
+// The implicit anchors of n boxes: how many there are, or more than corridors::ANCHORS, or REFUSED.
+pub fn implicit_anchors(rows: &[u32], n: usize, list: &mut [i32]) -> usize
+    requires { ⌜ ANCHOR-WORDS ≤ length (now list) ⌝ }
 {
-    if 64 < n {
+    if fixed::BOXES < n {
         return REFUSED;
     }
-    let mut left = [0i32; 64];
-    let mut right = [0i32; 64];
-    let mut low = [0i32; 64];
-    let mut high = [0i32; 64];
-    if !pad_boxes(&mut left, &mut right, &mut low, &mut high, rows, n) {
+    let mut boxes = [0i32; fixed::PADDED_WORDS];
+    if !pad_boxes(&mut boxes, rows, n) {
         return REFUSED;
     }
-    let mut table = [0u32; 8255];
+    let mut table = [0u32; corridors::TABLE];
     let mut xs = [0i32; 128];
     let mut ys = [0i32; 128];
-    between(
-        &left,
-        &right,
-        &low,
-        &high,
-        n,
-        &mut table,
-        &mut xs,
-        &mut ys,
-        ax,
-        ay,
-        ways,
-    )
+    between(&boxes, n, &mut table, &mut xs, &mut ys, list)
 }

@@ -1,11 +1,11 @@
 use vector_list::Match;
 
 // Compares a graph's nodes, and a page's implicit anchors, with their lines of the list.
-ghost use Prim.Native.Nat.{_+_, _*_, _≤_, _<_};
+ghost use Prim.Native.Nat.{_≤_, _<_};
 ghost use lib.ListN.{length};
-
-// No neighbour.
-const NONE: u32 = 4294967295;
+ghost use Rattle.fixed.specs.Constants.{COORDS, ANCHOR-WORDS};
+ghost use Rattle.nodes.specs.Graph.{NODES};
+ghost use Rattle.nodes.specs.Columns.{GRAPH-WORDS};
 
 // Whether the next two fields are a place.
 pub fn place_is(list: &[u8], m: Match, x: u32, y: u32) -> Match
@@ -30,71 +30,57 @@ fn link_is(list: &[u8], m: Match, link: u32) -> Match
     requires { ⌜ m .next ≤ length (now list) ⌝ }
     ensures { λ r. ⌜ r .next ≤ length (now (list .entry)) ⌝ }
 {
-    if link == NONE {
+    if link == nodes::NONE {
         return vector_list::byte_is(list, m, b'-');
     }
     vector_list::number_is(list, m, link)
 }
 
-// Whether the next four fields are a node's neighbours.
-fn links_are(list: &[u8], m: Match, links: &[u32], at: usize) -> Match
-    requires { ⌜ (m .next ≤ length (now list)) × (at + 4 ≤ length (now links)) ⌝ }
+// Whether the next four fields are the neighbours of the node i.
+fn links_are(list: &[u8], m: Match, nodes: &[i32], i: usize) -> Match
+    requires { ⌜ (m .next ≤ length (now list)) × (i < NODES) × (GRAPH-WORDS ≤ length (now nodes)) ⌝ }
     ensures { λ r. ⌜ r .next ≤ length (now (list .entry)) ⌝ }
 {
-    let a = link_is(list, m, links[at]);
-    let b = link_is(list, a, links[at + 1]);
-    let c = link_is(list, b, links[at + 2]);
-    link_is(list, c, links[at + 3])
+    let a = link_is(list, m, nodes::link_word(nodes, i, 0));
+    let b = link_is(list, a, nodes::link_word(nodes, i, 1));
+    let c = link_is(list, b, nodes::link_word(nodes, i, 2));
+    link_is(list, c, nodes::link_word(nodes, i, 3))
 }
 
-// Whether the next line is a node.
-fn node_is(
-    list: &[u8],
-    m: Match,
-    i: usize,
-    xs: &[i32],
-    ys: &[i32],
-    links: &[u32],
-    marks: &[u32],
-) -> Match
-    requires { ⌜ (m .next ≤ length (now list)) × (i < 4096) × (i < length (now xs)) × (i < length (now ys)) × (i < length (now marks)) × (i * 4 + 4 ≤ length (now links)) ⌝ }
+// Whether the next line is the node i.
+fn node_is(list: &[u8], m: Match, nodes: &[i32], i: usize) -> Match
+    requires { ⌜ (m .next ≤ length (now list)) × (i < NODES) × (GRAPH-WORDS ≤ length (now nodes)) ⌝ }
     ensures { λ r. ⌜ r .next ≤ length (now (list .entry)) ⌝ }
 {
     let a = vector_list::number_is(list, m, i as u32);
-    let b = place_is(list, a, fixed::at(xs, i), fixed::at(ys, i));
-    let c = mark_is(list, b, marks[i]);
-    links_are(list, c, links, i * 4)
+    let b = place_is(list, a, nodes::x_of(nodes, i), nodes::y_of(nodes, i));
+    let c = mark_is(list, b, nodes::mark_of(nodes, i));
+    links_are(list, c, nodes, i)
 }
 
 // Whether the list holds the lines of n nodes.
-pub fn nodes_are(
-    list: &[u8],
-    n: usize,
-    xs: &[i32],
-    ys: &[i32],
-    links: &[u32],
-    marks: &[u32],
-) -> bool
-    requires { ⌜ (n ≤ 4096) × (n ≤ length (now xs)) × (n ≤ length (now ys)) × (n ≤ length (now marks)) × (n * 4 ≤ length (now links)) ⌝ }
+pub fn nodes_are(list: &[u8], n: usize, nodes: &[i32]) -> bool
+    requires { ⌜ (n ≤ NODES) × (GRAPH-WORDS ≤ length (now nodes)) ⌝ }
 {
     let mut m = Match { ok: true, next: 0 };
     let mut i = 0;
     while i < n {
-        m = node_is(list, m, i, xs, ys, links, marks);
+        m = node_is(list, m, nodes, i);
         i += 1;
     }
     m.ok & (m.next == list.len())
 }
 
 // Whether the list holds the lines of n anchors.
-pub fn anchors_are(list: &[u8], n: usize, xs: &[i32], ys: &[i32], ways: &[u32]) -> bool
-    requires { ⌜ (n ≤ length (now xs)) × (n ≤ length (now ys)) × (n ≤ length (now ways)) ⌝ }
+pub fn anchors_are(list: &[u8], n: usize, anchors: &[i32]) -> bool
+    requires { ⌜ (n ≤ COORDS) × (ANCHOR-WORDS ≤ length (now anchors)) ⌝ }
 {
     let mut m = Match { ok: true, next: 0 };
     let mut i = 0;
     while i < n {
-        let a = place_is(list, m, fixed::at(xs, i), fixed::at(ys, i));
-        m = vector_list::number_is(list, a, ways[i]);
+        let y = fixed::at(anchors, fixed::ANCHOR_Y + i);
+        let a = place_is(list, m, fixed::at(anchors, i), y);
+        m = vector_list::number_is(list, a, fixed::at(anchors, fixed::ANCHOR_DIRS + i));
         i += 1;
     }
     m.ok & (m.next == list.len())

@@ -1,4 +1,5 @@
 use crate::tally::Verdict;
+use page_graph::Graphed;
 use vector_list::Match;
 
 // Compares what a page's records give with sections of the list.
@@ -9,23 +10,15 @@ ghost use lib.ListN.{length};
 ghost use Rattle.desk.specs.Sizes.{DESK};
 ghost use Rattle.book.specs.Book.{valid};
 ghost use Rattle.desk.specs.Desk.{bookOf};
-ghost use Rattle.nodes.specs.Lent.{Roomy};
+ghost use Rattle.nodes.specs.Columns.{GRAPH-WORDS};
 
 // Compares the implicit anchors.
 pub fn anchors(desk: &[u32], bytes: &[u8]) -> Verdict
     requires { ⌜ DESK ≤ length (now desk) ⌝ }
 {
-    let mut ax = [0i32; corridors::ANCHORS];
-    let mut ay = [0i32; corridors::ANCHORS];
-    let mut ways = [0u32; corridors::ANCHORS];
+    let mut list = [0i32; fixed::ANCHOR_WORDS];
     let boxes = rows::wide(desk[1]);
-    let n = crate::corridor::implicit_anchors(
-        &desk[2..1 + block::BOX_AREA],
-        boxes,
-        &mut ax,
-        &mut ay,
-        &mut ways,
-    );
+    let n = crate::corridor::implicit_anchors(&desk[2..1 + block::BOX_AREA], boxes, &mut list);
     if corridors::ANCHORS < n {
         return Verdict {
             ok: false,
@@ -33,7 +26,7 @@ pub fn anchors(desk: &[u32], bytes: &[u8]) -> Verdict
         };
     }
     Verdict {
-        ok: crate::dump::anchors_are(bytes, n, &ax, &ay, &ways),
+        ok: crate::dump::anchors_are(bytes, n, &list),
         entries: n,
     }
 }
@@ -45,20 +38,13 @@ fn is_valid(desk: &[u32]) -> bool
     desk::validate(desk) == 0
 }
 
-// The graph of a desk's page: how many nodes it has, or page_graph::CROWDED, also where the desk is not valid.
-fn graph_of(
-    desk: &[u32],
-    pruned: bool,
-    xs: &mut [i32],
-    ys: &mut [i32],
-    links: &mut [u32],
-    marks: &mut [u32],
-) -> usize
+// The graph of a desk's page. Where the desk is not valid it counts as crowded.
+fn graph_of(desk: &[u32], pruned: bool, nodes: &mut [i32]) -> Graphed
     requires { ⌜ DESK ≤ length (now desk) ⌝ }
-    requires { ⌜ Roomy (now xs) (now ys) (now links) (now marks) ⌝ }
+    requires { ⌜ GRAPH-WORDS ≤ length (now nodes) ⌝ }
 {
     if !is_valid(desk) {
-        return page_graph::CROWDED;
+        return Graphed::Crowded;
     }
     let boxes = select::rows_of(desk, book::Kind::Box);
     let nb = select::count_of(desk, book::Kind::Box);
@@ -68,32 +54,13 @@ fn graph_of(
     let nn = select::count_of(desk, book::Kind::Net);
     let ends = select::rows_of(desk, book::Kind::End);
     let ne = select::count_of(desk, book::Kind::End);
-    page_graph::graph_of(
-        boxes,
-        nb,
-        ports,
-        np,
-        nets,
-        nn,
-        ends,
-        ne,
-        pruned,
-        xs,
-        ys,
-        links,
-        marks,
-    )
+    page_graph::graph_of(boxes, nb, ports, np, nets, nn, ends, ne, pruned, nodes)
 }
 
-// Compares the graph's nodes.
-pub fn graph(desk: &[u32], pruned: bool, bytes: &[u8]) -> Verdict
-    requires { ⌜ DESK ≤ length (now desk) ⌝ }
+// Compares the n nodes of a graph.
+fn compare_nodes(bytes: &[u8], n: usize, nodes: &[i32]) -> Verdict
+    requires { ⌜ GRAPH-WORDS ≤ length (now nodes) ⌝ }
 {
-    let mut xs = [0i32; nodes::NODES];
-    let mut ys = [0i32; nodes::NODES];
-    let mut links = [0u32; 16384];
-    let mut marks = [0u32; nodes::NODES];
-    let n = graph_of(desk, pruned, &mut xs, &mut ys, &mut links, &mut marks);
     if nodes::NODES < n {
         return Verdict {
             ok: false,
@@ -101,8 +68,23 @@ pub fn graph(desk: &[u32], pruned: bool, bytes: &[u8]) -> Verdict
         };
     }
     Verdict {
-        ok: crate::dump::nodes_are(bytes, n, &xs, &ys, &links, &marks),
+        ok: crate::dump::nodes_are(bytes, n, nodes),
         entries: n,
+    }
+}
+
+// Compares the graph's nodes.
+pub fn graph(desk: &[u32], pruned: bool, bytes: &[u8]) -> Verdict
+    requires { ⌜ DESK ≤ length (now desk) ⌝ }
+{
+    let mut nodes = [0i32; nodes::GRAPH_WORDS];
+    let g = graph_of(desk, pruned, &mut nodes);
+    match g {
+        Graphed::Crowded => Verdict {
+            ok: false,
+            entries: 0,
+        },
+        Graphed::Nodes(n) => compare_nodes(bytes, n, &nodes),
     }
 }
 
@@ -120,30 +102,32 @@ fn count_is(list: &[u8], m: Match, n: usize) -> Match
     vector_list::number_is(list, m, n as u32)
 }
 
-// How many nodes the graph has.
-fn nodes_of(desk: &[u32], pruned: bool) -> usize
+// Whether the next field of the counts says how many nodes the graph has.
+fn nodes_counted(list: &[u8], m: Match, desk: &[u32], pruned: bool) -> Match
+    requires { ⌜ m .next ≤ length (now list) ⌝ }
     requires { ⌜ DESK ≤ length (now desk) ⌝ }
+    ensures { λ r. ⌜ r .next ≤ length (now (list .entry)) ⌝ }
 {
-    let mut xs = [0i32; nodes::NODES];
-    let mut ys = [0i32; nodes::NODES];
-    let mut links = [0u32; 16384];
-    let mut marks = [0u32; nodes::NODES];
-    graph_of(desk, pruned, &mut xs, &mut ys, &mut links, &mut marks)
+    let mut nodes = [0i32; nodes::GRAPH_WORDS];
+    let g = graph_of(desk, pruned, &mut nodes);
+    match g {
+        Graphed::Crowded => Match {
+            ok: false,
+            next: m.next,
+        },
+        Graphed::Nodes(n) => count_is(list, m, n),
+    }
 }
 
 // How many implicit anchors there are.
 fn anchors_of(desk: &[u32]) -> usize
     requires { ⌜ DESK ≤ length (now desk) ⌝ }
 {
-    let mut ax = [0i32; corridors::ANCHORS];
-    let mut ay = [0i32; corridors::ANCHORS];
-    let mut ways = [0u32; corridors::ANCHORS];
+    let mut list = [0i32; fixed::ANCHOR_WORDS];
     crate::corridor::implicit_anchors(
         &desk[2..1 + block::BOX_AREA],
         rows::wide(desk[1]),
-        &mut ax,
-        &mut ay,
-        &mut ways,
+        &mut list,
     )
 }
 
@@ -157,8 +141,8 @@ pub fn counts(desk: &[u32], list: &[u8], at: usize) -> Verdict
         next: word.next,
     };
     let a = count_is(list, m, anchors_of(desk));
-    let b = count_is(list, a, nodes_of(desk, false));
-    let c = count_is(list, b, nodes_of(desk, true));
+    let b = nodes_counted(list, a, desk, false);
+    let c = nodes_counted(list, b, desk, true);
     Verdict {
         ok: c.ok,
         entries: 0,

@@ -1,4 +1,5 @@
 pub mod Seeking
 pub mod Counts
+pub mod Paths
 pub mod Pushes
 pub mod Offers

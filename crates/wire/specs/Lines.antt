@@ -2,9 +2,15 @@
 -- `count` entries are the line.
 use mathlib.Core.Bool.{Bool, _&&_, cond}
 use mathlib.Core.List.{List}
-use Prim.Native.Nat.{ℕ, zero, suc, _+_, _-_}
+use Prim.Native.Nat.{ℕ, zero, suc, _+_, _-_, _≤_}
 use lib.Dec.{eqb}
-use lib.ListN.{getD}
+use lib.IntN.{ℤ}
+use lib.ListN.{length, getD}
+use Rattle.fixed.specs.Seen.{Lent, old}
+use Rattle.nodes.specs.Graph.{Graph, NODES}
+use Rattle.nodes.specs.Columns.{GRAPH-WORDS, graph}
+use Rattle.astar.specs.Reached.{Below}
+use Rattle.path_finding.specs.Line.{table, place-at, kind-at, direction-at}
 
 pub record Line : Type 0 where
   pub x : List ℕ
@@ -29,3 +35,28 @@ kept kinds ways zero = zero
 kept kinds ways (suc k) =
     let before = kept kinds ways k in
     cond (straight kinds ways (suc k)) before (before + 1)
+
+abbrev pub goesOn : Line → ℕ → Bool
+goesOn L i = straight (L .kinds) (L .ways) i
+
+abbrev pub keptTo : Line → ℕ → ℕ
+keptTo L k = kept (L .kinds) (L .ways) k
+
+-- the line of the nodes l of a graph: exactly their places, kinds and directions onward
+abbrev pub lineOf : Graph → List ℕ → Line
+lineOf G l =
+    line (table (place-at (G .xs) l) (length l)) (table (place-at (G .ys) l) (length l)) (table (kind-at (length l)) (length l)) (table (direction-at (G .links) l) (length l)) (length l)
+
+-- ---- what the functions are lent: a graph of n nodes, and a path of them
+
+abbrev pub pathLine : ℕ → List ℤ → List ℕ → Line
+pathLine n nodes path = lineOf (graph n nodes) path
+
+pub record PathOn (n : ℕ) (nodes : List ℤ) (path : List ℕ) : Type 0 where
+  pub few : n ≤ NODES
+  pub room : GRAPH-WORDS ≤ length nodes
+  pub below : Below n path
+  pub most : length path ≤ NODES
+
+abbrev pub pathIn : ℕ → Lent (List ℤ) → Lent (List ℕ) → Line
+pathIn n nodes path = pathLine n (old nodes) (old path)

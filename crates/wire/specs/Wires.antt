@@ -4,13 +4,16 @@ use mathlib.Core.List.{List}
 use Prim.Native.Nat.{ℕ, zero, suc, _+_, _-_, _*_, _%_, _<_, _≤_}
 use lib.Dec.{eqb}
 use lib.ListN.{getD, set}
+use lib.IntN.{ℤ}
+use Rattle.fixed.specs.Seen.{Lent, old, new}
+use Rattle.fixed.specs.Up.{ups}
 use Rattle.fixed.specs.Steps.{dummy}
 use Rattle.vertex.specs.Kinds.{letterOf}
 use Rattle.vertex.specs.declared.Junction.{Junction}
 use Rattle.vertex.specs.declared.VertexKind.{VertexKind}
 use Rattle.vertex.specs.declared.VertexKind.the-variants.{WireStart, Dummy, Normal, WireEnd}
 use Rattle.wire.specs.Ends.{CORNER, LINE, endVertex, putEnd}
-use Rattle.wire.specs.Lines.{Line, straight, kept}
+use Rattle.wire.specs.Lines.{Line, straight, keptTo}
 
 -- the columns of the page's vertices, of which n are in use
 pub record Vertices : Type 0 where
@@ -91,11 +94,11 @@ pushVertices L isRoot J W =
     pushNodes L J (L .count - 1) (wires (pushStart L isRoot (W .page)) (pushStartEnds L (W .page .n) (W .net)))
 
 -- how many vertices a line adds, and how many ends
-abbrev pub lineVertices : List ℕ → List ℕ → ℕ → ℕ
-lineVertices kinds ways count = 3 + kept kinds ways (count - 1)
+abbrev pub lineVertices : Line → ℕ
+lineVertices L = 3 + keptTo L (L .count - 1)
 
-abbrev pub lineEnds : ℕ → ℕ
-lineEnds count = count + 1
+abbrev pub lineEnds : Line → ℕ
+lineEnds L = L .count + 1
 
 -- `push_fallback_vertices`: a wire from s to e where there is no line. Its corner lies along x from the start if the start's node has an X direction,
 -- else along y, and is a vertex of its own unless it is the start or the end.
@@ -133,25 +136,22 @@ pub record Held (n : ℕ) (E : Ends) : Type 0 where
 
 -- ---- what safety asks
 
--- i is a node of a line behind its first, whose columns have these lengths
-pub record Node (x y kinds ways i : ℕ) : Type 0 where
-  pub behind : 0 < i
-  pub in-x : i < x
-  pub in-y : i < y
-  pub in-kinds : i < kinds
-  pub in-ways : i < ways
-
--- a line of two nodes or more, whose columns have these lengths
-pub record Long (x y kinds ways count : ℕ) : Type 0 where
-  pub two : 2 ≤ count
-  pub most : count ≤ 4096
-  pub in-x : count ≤ x
-  pub in-y : count ≤ y
-  pub in-kinds : count ≤ kinds
-  pub in-ways : count ≤ ways
-
 -- columns of these lengths have room for the vertices of a page
 pub record Room (x y kinds : ℕ) : Type 0 where
   pub of-x : 512 ≤ x
   pub of-y : 512 ≤ y
   pub of-kinds : 512 ≤ kinds
+
+-- ---- what a clause sees of the lent lists of a page, and of a net's ends
+
+abbrev pub verticesIn : Lent (List ℤ) → Lent (List ℤ) → Lent (List ℕ) → ℕ → Vertices
+verticesIn x y letters n = vertices (ups (old x)) (ups (old y)) (old letters) n
+
+abbrev pub verticesOut : Lent (List ℤ) → Lent (List ℤ) → Lent (List ℕ) → ℕ → Vertices
+verticesOut x y letters n = vertices (ups (new x)) (ups (new y)) (new letters) n
+
+abbrev pub wiresIn : Lent (List ℤ) → Lent (List ℤ) → Lent (List ℕ) → ℕ → Lent (List ℕ) → ℕ → Wires
+wiresIn x y letters n rows m = wires (verticesIn x y letters n) (ends (old rows) m)
+
+abbrev pub wiresOut : Lent (List ℤ) → Lent (List ℤ) → Lent (List ℕ) → ℕ → Lent (List ℕ) → ℕ → Wires
+wiresOut x y letters n rows m = wires (verticesOut x y letters n) (ends (new rows) m)

@@ -7,49 +7,52 @@ use Rattle.anchors.proofs.push.Tie as tie
 put-requires : tie.Need-put-requires
 put-requires c κs = search needs
 
+add-put : tie.Need-add-put
+add-put c = search needs
+
 put-requires-2 : tie.Need-put-requires-2
 put-requires-2 c κs = search needs
 
-mul-dirs : tie.Need-mul-dirs
-mul-dirs c = search needs
+mul-put : tie.Need-mul-put
+mul-put c = search needs
 
-slice-write-dirs : tie.Need-slice-write-dirs
-slice-write-dirs c = search needs
+add-put-2 : tie.Need-add-put-2
+add-put-2 c = search needs
 
-mul-own : tie.Need-mul-own
-mul-own c = search needs
+put-requires-3 : tie.Need-put-requires-3
+put-requires-3 c κs = search needs
 
-slice-write-own : tie.Need-slice-write-own
-slice-write-own c = search needs
+mul-put-2 : tie.Need-mul-put-2
+mul-put-2 c = search needs
+
+add-put-3 : tie.Need-add-put-3
+add-put-3 c = search needs
+
+put-requires-4 : tie.Need-put-requires-4
+put-requires-4 c κs = search needs
 
 same-length : tie.Need-same-length
 same-length c = search needs
 
-same-length-2 : tie.Need-same-length-2
-same-length-2 c = search needs
-
-same-length-3 : tie.Need-same-length-3
-same-length-3 c = search needs
-
-same-length-4 : tie.Need-same-length-4
-same-length-4 c = search needs
-
 returns : tie.Need-returns
 returns c =
-    pushed _ _ _ _ _ _ _ _ _ _ _ (omega arith) (omega arith) (omega arith) (omega arith) (c .before .before .before .before .put .ensures) (c .before .put2 .ensures)
+    let at-put2 = c .before .before .before .before .before .before .before in
+    let at-put = at-put2 .before .before .before in
+    let entry = at-put .before .before in
+    pushed _ _ _ _ _ _ _ _ _ _ (entry .pre .1) (entry .pre .0) (at-put .put .ensures) (at-put2 .put2 .ensures) (c .before .before .before .before .put3 .ensures) (c .before .put4 .ensures)
 
 pub push-spec : {M : Type 1} → statement M
 push-spec =
     tie.close
     (tie.spec
     put-requires
+    add-put
     put-requires-2
-    mul-dirs
-    slice-write-dirs
-    mul-own
-    slice-write-own
+    mul-put
+    add-put-2
+    put-requires-3
+    mul-put-2
+    add-put-3
+    put-requires-4
     same-length
-    same-length-2
-    same-length-3
-    same-length-4
     returns)

@@ -51,7 +51,9 @@ ways-requires c κs = search needs
 
 push-requires : tie.Need-push-requires
 push-requires c κs =
-    (c .before .before .before .before .before .before .before .before .before .before .before .before .before .pre .0, (let e = row-longer (c .before .before .before .before .before .before .before .before .before .before .before .before .before .args .ends) (c .before .before .before .before .before .before .before .before .before .before .before .before .before .args .rows .now) (c .before .before .before .before .before .before .before .before .before .before .before .before .before .args .key) (c .before .before .before .before .before .before .before .before .before .before .before .before .before .args .b) (c .before .before .before .before .before .before .before .before .before .before .before .before .before .args .k) (columns (c .before .before .before .before .before .before .before .before .before .before .before .before .before .args .n) (c .before .before .before .before .before .before .before .before .before .before .before .before .before .args .cx .now) (c .before .before .before .before .before .before .before .before .before .before .before .before .before .args .cy .now) (c .before .before .before .before .before .before .before .before .before .before .before .before .before .args .dirs .now) (c .before .before .before .before .before .before .before .before .before .before .before .before .before .args .own .now)) (sym (c .before .before .before .before .before .before .before .before .before .takes .ensures) ∙ c .before .before .before .before .before .before .before .before .if1 .taken) in omega (arith, long (c .before .before .before .before .before .before .before .before .before .before .before .before .before .args .n) (c .before .before .before .before .before .before .before .before .before .before .before .before .before .args .cx .now) (c .before .before .before .before .before .before .before .before .before .before .before .before .before .args .cy .now) (c .before .before .before .before .before .before .before .before .before .before .before .before .before .args .dirs .now) (c .before .before .before .before .before .before .before .before .before .before .before .before .before .args .own .now) (omega arith))))
+    let at-takes = c .before .before .before .before .before .before in
+    let entry = at-takes .before .before in
+    (entry .pre .0, (let e = row-longer (entry .args .ends) (entry .args .rows .now) (entry .args .key) (entry .args .b) (entry .args .k) (columns (entry .args .n) (entry .args .out .now)) (sym (at-takes .takes .ensures) ∙ c .before .before .before .before .before .if1 .taken) in omega (arith, long (entry .args .n) (entry .args .out .now))))
 
 add-result : tie.Need-add-result
 add-result c = search needs
@@ -59,22 +61,15 @@ add-result c = search needs
 same-length : tie.Need-same-length
 same-length c = search needs
 
-same-length-2 : tie.Need-same-length-2
-same-length-2 c = search needs
-
-same-length-3 : tie.Need-same-length-3
-same-length-3 c = search needs
-
-same-length-4 : tie.Need-same-length-4
-same-length-4 c = search needs
-
 returns : tie.Need-returns
 returns c =
-    (c .before .before .before .before .before .before .push .ensures ∙ row-taken _ _ _ _ _ _ (sym (c .before .before .before .before .before .before .before .before .before .before .before .before .before .before .before .before .takes .ensures) ∙ c .before .before .before .before .before .before .before .before .before .before .before .before .before .before .before .if1 .taken) _ (c .before .before .before .before .before .before .before .before .before .before .before .ways .ensures), (let e = row-longer (c .before .before .before .before .before .before .before .before .before .before .before .before .before .before .before .before .before .before .before .before .args .ends) (c .before .before .before .before .before .before .before .before .before .before .before .before .before .before .before .before .before .before .before .before .args .rows .now) (c .before .before .before .before .before .before .before .before .before .before .before .before .before .before .before .before .before .before .before .before .args .key) (c .before .before .before .before .before .before .before .before .before .before .before .before .before .before .before .before .before .before .before .before .args .b) (c .before .before .before .before .before .before .before .before .before .before .before .before .before .before .before .before .before .before .before .before .args .k) (columns (c .before .before .before .before .before .before .before .before .before .before .before .before .before .before .before .before .before .before .before .before .args .n) (c .before .before .before .before .before .before .before .before .before .before .before .before .before .before .before .before .before .before .before .before .args .cx .now) (c .before .before .before .before .before .before .before .before .before .before .before .before .before .before .before .before .before .before .before .before .args .cy .now) (c .before .before .before .before .before .before .before .before .before .before .before .before .before .before .before .before .before .before .before .before .args .dirs .now) (c .before .before .before .before .before .before .before .before .before .before .before .before .before .before .before .before .before .before .before .before .args .own .now)) (sym (c .before .before .before .before .before .before .before .before .before .before .before .before .before .before .before .before .takes .ensures) ∙ c .before .before .before .before .before .before .before .before .before .before .before .before .before .before .before .if1 .taken) in omega (arith, long (c .before .before .before .before .before .before .before .before .before .before .before .before .before .before .before .before .before .before .before .before .args .n) (c .before .before .before .before .before .before .before .before .before .before .before .before .before .before .before .before .before .before .before .before .args .cx .now) (c .before .before .before .before .before .before .before .before .before .before .before .before .before .before .before .before .before .before .before .before .args .cy .now) (c .before .before .before .before .before .before .before .before .before .before .before .before .before .before .before .before .before .before .before .before .args .dirs .now) (c .before .before .before .before .before .before .before .before .before .before .before .before .before .before .before .before .before .before .before .before .args .own .now) (omega arith))))
+    let at-if1 = c .before .before .before .before .before .before .before in
+    let at-takes = at-if1 .before in
+    let entry = at-takes .before .before in
+    (c .before .push .ensures ∙ row-taken _ _ _ _ _ _ (sym (at-takes .takes .ensures) ∙ at-if1 .if1 .taken) _ (c .before .before .before .ways .ensures), (let e = row-longer (entry .args .ends) (entry .args .rows .now) (entry .args .key) (entry .args .b) (entry .args .k) (columns (entry .args .n) (entry .args .out .now)) (sym (at-takes .takes .ensures) ∙ at-if1 .if1 .taken) in omega (arith, long (entry .args .n) (entry .args .out .now))))
 
 returns-2 : tie.Need-returns-2
-returns-2 c =
-    (row-left _ _ _ _ _ _ (sym (c .before .takes .ensures) ∙ c .if1 .left), omega arith)
+returns-2 c = (row-left _ _ _ _ _ _ (sym (c .before .takes .ensures) ∙ c .if1 .left), omega arith)
 
 pub with-row-spec : {M : Type 1} → statement M
 with-row-spec =
@@ -97,8 +92,5 @@ with-row-spec =
     push-requires
     add-result
     same-length
-    same-length-2
-    same-length-3
-    same-length-4
     returns
     returns-2)

@@ -1,8 +1,4 @@
 -- Two stores behind the first `made`.
-use native.Mathlib.Omega.{arith}
-use Rattle.fixed.specs.Up.{ups}
-use Rattle.fixed.proofs.Lists.{length-ups}
-use Rattle.corridors.proofs.Laying.{two}
 use borrow.Author.Needs.{needs}
 use Rattle.corridors.proofs.put_two.Statement.{statement}
 use Rattle.corridors.proofs.put_two.Tie as tie
@@ -20,7 +16,7 @@ same-length : tie.Need-same-length
 same-length c = search needs
 
 returns : tie.Need-returns
-returns c = rw (c .before .put2 .ensures, c .before .before .before .before .put .ensures) (two (ups (c .before .before .before .before .before .before .args .col .now)) (c .before .before .before .before .before .before .args .made) (c .before .before .before .before .before .before .args .u) (c .before .before .before .before .before .before .args .v) (omega (arith, length-ups (c .before .before .before .before .before .before .args .col .now))))
+returns c = rw (c .before .put2 .ensures, c .before .before .before .before .put .ensures)
 
 pub put-two-spec : {M : Type 1} → statement M
 put-two-spec = tie.close (tie.spec put-requires add-put put-requires-2 same-length returns)

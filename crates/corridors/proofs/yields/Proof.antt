@@ -12,7 +12,8 @@ coord-requires c κs = search needs
 
 add-lo : tie.Need-add-lo
 add-lo c =
-    omega (arith, inside-any (c .before .args .xs .now) (c .before .args .v / SPAN) (c .before .pre .3), c .coord .ensures)
+    let entry = c .before in
+    omega (arith, inside-any (entry .args .xs .now) (entry .args .v / SPAN) (entry .pre .2), c .coord .ensures)
 
 coord-requires-2 : tie.Need-coord-requires-2
 coord-requires-2 c κs = search needs
@@ -35,11 +36,12 @@ emit-requires c κs = search needs
 same-length : tie.Need-same-length
 same-length c = search needs
 
-same-length-2 : tie.Need-same-length-2
-same-length-2 c = search needs
-
 returns : tie.Need-returns
-returns c = rw (← c .before .before .before .before .before .before .before .before .before .before .coord .ensures, ← c .before .before .before .before .before .before .before .before .before .coord2 .ensures, ← c .before .before .before .before .before .before .before .coord3 .ensures, ← c .before .before .before .before .before .before .coord4 .ensures, ← c .before .before .before .before .before .before .before .before .less .ensures, ← c .before .before .before .before .before .middle .ensures) (c .before .before .emit .ensures)
+returns c =
+    let at-less = c .before .before .before .before .before .before in
+    let at-coord2 = at-less .before in
+    let at-coord = at-coord2 .before in
+    rw (← at-coord .coord .ensures, ← at-coord2 .coord2 .ensures, ← c .before .before .before .before .before .coord3 .ensures, ← c .before .before .before .before .coord4 .ensures, ← at-less .less .ensures, ← c .before .before .before .middle .ensures) (c .before .emit .ensures)
 
 pub yields-spec : {M : Type 1} → statement M
 yields-spec =
@@ -54,5 +56,4 @@ yields-spec =
     middle-requires
     emit-requires
     same-length
-    same-length-2
     returns)

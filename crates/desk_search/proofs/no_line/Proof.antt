@@ -1,27 +1,20 @@
--- `desk_search::no_line` meets its contract. A line of no nodes is written.
-use mathlib.Core.Path.{refl}
-use borrow.Author.Needs.{needs}
+-- `desk_search::no_line` meets its contract. Zeros from the first entry on.
 use Rattle.desk_search.proofs.Outputs.{no-line-lent}
+use borrow.Author.Needs.{needs}
 use Rattle.desk_search.proofs.no_line.Statement.{statement}
 use Rattle.desk_search.proofs.no_line.Tie as tie
 
-slice-aggregate-write-line : tie.Need-slice-aggregate-write-line
-slice-aggregate-write-line c = search needs
+zero-steps-requires : tie.Need-zero-steps-requires
+zero-steps-requires c κs = search needs
 
-slice-aggregate-write-line-2 : tie.Need-slice-aggregate-write-line-2
-slice-aggregate-write-line-2 c = search needs
+zero-steps-requires-2 : tie.Need-zero-steps-requires-2
+zero-steps-requires-2 c κs = search needs
 
-slice-aggregate-write-line-3 : tie.Need-slice-aggregate-write-line-3
-slice-aggregate-write-line-3 c = search needs
+zero-bytes-requires : tie.Need-zero-bytes-requires
+zero-bytes-requires c κs = search needs
 
-array-share-prefix-line : tie.Need-array-share-prefix-line
-array-share-prefix-line c = search needs
-
-slice-aggregate-write-line-4 : tie.Need-slice-aggregate-write-line-4
-slice-aggregate-write-line-4 c = search needs
-
-write-line-requires : tie.Need-write-line-requires
-write-line-requires c κs = search needs
+zero-bytes-requires-2 : tie.Need-zero-bytes-requires-2
+zero-bytes-requires-2 c κs = search needs
 
 same-length : tie.Need-same-length
 same-length c = search needs
@@ -36,18 +29,21 @@ same-length-4 : tie.Need-same-length-4
 same-length-4 c = search needs
 
 returns : tie.Need-returns
-returns c = no-line-lent _ _ _ _ (c .before .before .before .before .before .before .before .before .before .before .before .before .before .before .before .before .before .args .lx .now) _ (c .before .before .before .before .before .before .before .before .before .before .before .before .before .before .before .before .before .args .ly .now) _ _ _ _ _ refl (search needs) (search needs) (search needs) (search needs) (c .before .before .before .before .before .before .write-line .ensures)
+returns c =
+    let at-zero-bytes = c .before .before .before .before .before .before in
+    let at-zero-steps2 = at-zero-bytes .before .before .before in
+    let at-zero-steps = at-zero-steps2 .before .before .before in
+    let entry = at-zero-steps .before .before .before .before in
+    no-line-lent (entry .args .lx .now) _ (entry .args .ly .now) _ _ _ _ _ (at-zero-steps .zero-steps .ensures) (at-zero-steps2 .zero-steps2 .ensures) (at-zero-bytes .zero-bytes .ensures) (c .before .before .zero-bytes2 .ensures)
 
 pub no-line-spec : {M : Type 1} → statement M
 no-line-spec =
     tie.close
     (tie.spec
-    slice-aggregate-write-line
-    slice-aggregate-write-line-2
-    slice-aggregate-write-line-3
-    array-share-prefix-line
-    slice-aggregate-write-line-4
-    write-line-requires
+    zero-steps-requires
+    zero-steps-requires-2
+    zero-bytes-requires
+    zero-bytes-requires-2
     same-length
     same-length-2
     same-length-3

@@ -1,6 +1,5 @@
 -- Too many nodes, pruned, or as it was built.
 use mathlib.Core.Path.{_≡_, refl}
-use Rattle.nodes.proofs.Nodes.{still}
 use Rattle.scan.specs.Lent.{anchors as anchors-of}
 use Rattle.graph.specs.Build.{boxes-of}
 use Rattle.graph.proofs.Wholes.{made-full, made-plain, made-pruned}
@@ -20,6 +19,12 @@ same-length-2 c = search needs
 same-length-3 : tie.Need-same-length-3
 same-length-3 c = search needs
 
+returns : tie.Need-returns
+returns c = made-full (c .before .before .before .before .whole .ensures) (c .if1 .taken)
+
+remove-redundant-nodes-requires : tie.Need-remove-redundant-nodes-requires
+remove-redundant-nodes-requires c κs = search needs
+
 same-length-4 : tie.Need-same-length-4
 same-length-4 c = search needs
 
@@ -29,13 +34,12 @@ same-length-5 c = search needs
 same-length-6 : tie.Need-same-length-6
 same-length-6 c = search needs
 
-returns : tie.Need-returns
-returns c =
-    made-full (c .before .before .before .before .before .before .before .before .before .whole .ensures) (c .if1 .taken)
-
-remove-redundant-nodes-requires : tie.Need-remove-redundant-nodes-requires
-remove-redundant-nodes-requires c κs =
-    (still (c .before .before .before .before .before .before .before .before .before .before .before .before .before .before .before .before .before .before .before .before .before .before .before .before .before .pre .1 .1 .0) (record { x-kept = c .before .before .before .before .before .before .before .before .before .before .before .before .before .before .whole .kept .1 .1 .1 .1 .1 .1 .1 .1 .1 .1 .1 .1 .1 .0; y-kept = c .before .before .before .before .before .before .before .before .before .before .before .before .before .before .whole .kept .1 .1 .1 .1 .1 .1 .1 .1 .1 .1 .1 .1 .1 .1 .0; link-kept = c .before .before .before .before .before .before .before .before .before .before .before .before .before .before .whole .kept .1 .1 .1 .1 .1 .1 .1 .1 .1 .1 .1 .1 .1 .1 .1 .0; mark-kept = c .before .before .before .before .before .before .before .before .before .before .before .before .before .before .whole .kept .1 .1 .1 .1 .1 .1 .1 .1 .1 .1 .1 .1 .1 .1 .1 .1 .0 }), c .before .before .before .before .before .if1 .left)
+returns-2 : tie.Need-returns-2
+returns-2 c =
+    let at-whole = c .before .before .before .before .before .before .before .before in
+    let entry = at-whole .before .before .before .before in
+    let a = entry .args in
+    made-pruned (boxes-of (a .boxes .now) (a .b)) (anchors-of (a .anchors .now) (a .explicit) (a .a)) (a .pruned) refl refl (c .before .before .before .if2 .taken) (at-whole .whole .ensures) (c .before .before .before .before .if1 .left) (c .before .remove-redundant-nodes .ensures)
 
 same-length-7 : tie.Need-same-length-7
 same-length-7 c = search needs
@@ -46,42 +50,9 @@ same-length-8 c = search needs
 same-length-9 : tie.Need-same-length-9
 same-length-9 c = search needs
 
-same-length-10 : tie.Need-same-length-10
-same-length-10 c = search needs
-
-same-length-11 : tie.Need-same-length-11
-same-length-11 c = search needs
-
-same-length-12 : tie.Need-same-length-12
-same-length-12 c = search needs
-
-returns-2 : tie.Need-returns-2
-returns-2 c =
-    let a = c .before .before .before .before .before .before .before .before .before .before .before .before .before .before .before .before .before .before .before .before .before .before .before .before .before .before .before .before .before .before .before .before .args in
-    made-pruned (boxes-of (a .bx .now) (a .by .now) (a .ex .now) (a .ey .now) (a .boxes)) (anchors-of (a .cx .now) (a .cy .now) (a .dirs .now) (a .own .now) (a .explicit) (a .anchors)) (a .pruned) refl refl (c .before .before .before .before .before .before .before .before .before .before .before .if2 .taken) (c .before .before .before .before .before .before .before .before .before .before .before .before .before .before .before .before .before .before .before .before .before .whole .ensures) (c .before .before .before .before .before .before .before .before .before .before .before .before .if1 .left) (c .before .before .before .before .before .before .remove-redundant-nodes .ensures)
-
-same-length-13 : tie.Need-same-length-13
-same-length-13 c = search needs
-
-same-length-14 : tie.Need-same-length-14
-same-length-14 c = search needs
-
-same-length-15 : tie.Need-same-length-15
-same-length-15 c = search needs
-
-same-length-16 : tie.Need-same-length-16
-same-length-16 c = search needs
-
-same-length-17 : tie.Need-same-length-17
-same-length-17 c = search needs
-
-same-length-18 : tie.Need-same-length-18
-same-length-18 c = search needs
-
 returns-3 : tie.Need-returns-3
-returns-3 c =
-    let a = c .before .before .before .before .before .before .before .before .before .before .before .before .before .before .before .before .before .before .before .before .before .args in
-    made-plain (boxes-of (a .bx .now) (a .by .now) (a .ex .now) (a .ey .now) (a .boxes)) (anchors-of (a .cx .now) (a .cy .now) (a .dirs .now) (a .own .now) (a .explicit) (a .anchors)) (a .pruned) refl (c .if2 .left) (c .before .before .before .before .before .before .before .before .before .before .whole .ensures) (c .before .if1 .left)
+returns-3 c = let a = c .before .before .before .before .before .before .before .before .before .args in
+    made-plain (boxes-of (a .boxes .now) (a .b)) (anchors-of (a .anchors .now) (a .explicit) (a .a)) (a .pruned) refl (c .if2 .left) (c .before .before .before .before .before .whole .ensures) (c .before .if1 .left)
 
 pub make-spec : {M : Type 1} → statement M
 make-spec =
@@ -91,22 +62,13 @@ make-spec =
     same-length
     same-length-2
     same-length-3
+    returns
+    remove-redundant-nodes-requires
     same-length-4
     same-length-5
     same-length-6
-    returns
-    remove-redundant-nodes-requires
+    returns-2
     same-length-7
     same-length-8
     same-length-9
-    same-length-10
-    same-length-11
-    same-length-12
-    returns-2
-    same-length-13
-    same-length-14
-    same-length-15
-    same-length-16
-    same-length-17
-    same-length-18
     returns-3)

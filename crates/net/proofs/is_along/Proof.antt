@@ -1,19 +1,19 @@
 -- The test is the definition.
 use Rattle.net.specs.Nets.{alongAt}
-use mathlib.Core.Path.{refl}
 use borrow.Author.Needs.{needs}
 use Rattle.net.proofs.is_along.Statement.{statement}
 use Rattle.net.proofs.is_along.Tie as tie
 
-mul-result : tie.Need-mul-result
-mul-result c = search needs
-
-shared-slice-read-result : tie.Need-shared-slice-read-result
-shared-slice-read-result c = search needs
+mark-of-requires : tie.Need-mark-of-requires
+mark-of-requires c κs = c .pre
 
 returns : tie.Need-returns
 unfolding alongAt
-returns c = refl
+returns c = rw (← c .mark-of .ensures)
 
 pub is-along-spec : {M : Type 1} → statement M
-is-along-spec = tie.close (tie.spec mul-result shared-slice-read-result returns)
+is-along-spec =
+    tie.close
+    (tie.spec
+    mark-of-requires
+    returns)

@@ -1,18 +1,25 @@
--- A crowded page is answered at once.
-use mathlib.Core.Path.{refl}
+-- The scratch is as large as the nodes ask.
 use native.Mathlib.Omega.{arith}
+use Rattle.path_finding.proofs.Between.{few-lent}
 use borrow.Author.Needs.{needs}
 use Rattle.page_search.proofs.find_on.Statement.{statement}
 use Rattle.page_search.proofs.find_on.Tie as tie
 
-array-share-prefix-line : tie.Need-array-share-prefix-line
-array-share-prefix-line c = search needs
+slice-aggregate-find-path : tie.Need-slice-aggregate-find-path
+slice-aggregate-find-path c = search needs
 
-slice-aggregate-write-line : tie.Need-slice-aggregate-write-line
-slice-aggregate-write-line c = search needs
+slice-aggregate-find-path-2 : tie.Need-slice-aggregate-find-path-2
+slice-aggregate-find-path-2 c = search needs
 
-write-line-requires : tie.Need-write-line-requires
-write-line-requires c κs = search needs
+slice-aggregate-find-path-3 : tie.Need-slice-aggregate-find-path-3
+slice-aggregate-find-path-3 c = search needs
+
+find-path-requires : tie.Need-find-path-requires
+find-path-requires c κs =
+    let at-if2 = c .before .before .before .before .before .before .before in
+    let at-if1 = at-if2 .before in
+    let entry = at-if1 .before .before .before in
+    (entry .pre .0, (entry .pre .1, record { cells-room = omega (arith, at-if1 .if1 .taken); tree-room = omega (arith, at-if1 .if1 .taken); list-room = omega (arith, at-if1 .if1 .taken); ends-room = omega (arith, at-if2 .if2 .taken) }))
 
 same-length : tie.Need-same-length
 same-length c = search needs
@@ -27,10 +34,22 @@ same-length-4 : tie.Need-same-length-4
 same-length-4 c = search needs
 
 returns : tie.Need-returns
-returns c = record { full = λ _. (refl, refl, c .before .before .before .before .before .before .write-line .ensures); fits = λ h. absurd (omega (arith, c .before .before .before .before .before .before .before .before .before .before .before .before .if1 .taken, h)) }
+returns c = search needs
 
-find-path-requires : tie.Need-find-path-requires
-find-path-requires c κs = (c .before .before .before .before .before .before .before .before .before .pre .0 (omega (arith, c .before .before .before .before .if1 .left)), c .before .before .before .before .before .before .before .before .before .pre .1)
+slice-aggregate-find-path-4 : tie.Need-slice-aggregate-find-path-4
+slice-aggregate-find-path-4 c = search needs
+
+slice-aggregate-find-path-5 : tie.Need-slice-aggregate-find-path-5
+slice-aggregate-find-path-5 c = search needs
+
+slice-aggregate-find-path-6 : tie.Need-slice-aggregate-find-path-6
+slice-aggregate-find-path-6 c = search needs
+
+find-path-requires-2 : tie.Need-find-path-requires-2
+find-path-requires-2 c κs =
+    let entry = c .before .before .before .before .before .before .before .before .before .before in
+    let few = few-lent _ _ (entry .pre .0 .0) in
+    (entry .pre .0, (entry .pre .1, record { cells-room = omega (arith, few); tree-room = omega (arith, few); list-room = omega (arith, few); ends-room = omega (arith, entry .pre .1 .most) }))
 
 same-length-5 : tie.Need-same-length-5
 same-length-5 c = search needs
@@ -45,21 +64,25 @@ same-length-8 : tie.Need-same-length-8
 same-length-8 c = search needs
 
 returns-2 : tie.Need-returns-2
-returns-2 c = record { full = λ h. absurd (omega (arith, c .before .before .before .before .before .before .before .before .before .before .before .if1 .left, h)); fits = λ _. c .before .before .before .before .before .before .find-path .ensures }
+returns-2 c = search needs
 
 pub find-on-spec : {M : Type 1} → statement M
 find-on-spec =
     tie.close
     (tie.spec
-    array-share-prefix-line
-    slice-aggregate-write-line
-    write-line-requires
+    slice-aggregate-find-path
+    slice-aggregate-find-path-2
+    slice-aggregate-find-path-3
+    find-path-requires
     same-length
     same-length-2
     same-length-3
     same-length-4
     returns
-    find-path-requires
+    slice-aggregate-find-path-4
+    slice-aggregate-find-path-5
+    slice-aggregate-find-path-6
+    find-path-requires-2
     same-length-5
     same-length-6
     same-length-7

@@ -1,6 +1,6 @@
+use Rattle.prune.proofs.Lent.{backs-by}
 use Prim.Native.Nat.{_-_}
 use borrow.Author.Needs.{needs}
-use Rattle.prune.specs.Prune.{backs}
 use Rattle.prune.proofs.backs.Statement.{statement}
 use Rattle.prune.proofs.backs.Tie as tie
 
@@ -20,8 +20,10 @@ same-length : tie.Need-same-length
 same-length c = search needs
 
 returns : tie.Need-returns
-unfolding backs
-returns c = rw (c .before .before .back4 .ensures, c .before .before .before .before .before .before .back3 .ensures, c .before .before .before .before .before .before .before .before .before .before .back2 .ensures, c .before .before .before .before .before .before .before .before .before .before .before .before .before .before .back .ensures)
+returns c =
+    let at-back2 = c .before .before .before .before .before .before .before in
+    let at-back = at-back2 .before .before .before in
+    backs-by _ _ _ _ _ _ _ (at-back .back .ensures) (at-back2 .back2 .ensures) (c .before .before .before .before .back3 .ensures) (c .before .back4 .ensures)
 
 pub backs-spec : {M : Type 1} → statement M
 backs-spec =

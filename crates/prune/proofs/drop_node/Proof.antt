@@ -1,3 +1,4 @@
+use Rattle.nodes.specs.Columns.{whole}
 use Prim.Native.Nat.{_-_}
 use native.Mathlib.Omega.{arith}
 use borrow.Author.Needs.{needs}
@@ -9,8 +10,7 @@ sub-last : tie.Need-sub-last
 sub-last c = search needs
 
 returns : tie.Need-returns
-returns c =
-    drop-last (c .before .before .before .args .n) (c .before .before .before .args .xs .now) (c .before .before .before .args .ys .now) (c .before .before .before .args .links .now) (c .before .before .before .args .marks .now) (c .before .before .before .args .i) (c .if1 .taken)
+returns c = drop-last _ (whole (c .before .args .nodes .now)) _ (c .if1 .taken)
 
 move-node-requires : tie.Need-move-node-requires
 move-node-requires c κs = search needs
@@ -21,30 +21,9 @@ backs-requires c κs = search needs
 same-length : tie.Need-same-length
 same-length c = search needs
 
-same-length-2 : tie.Need-same-length-2
-same-length-2 c = search needs
-
-same-length-3 : tie.Need-same-length-3
-same-length-3 c = search needs
-
-same-length-4 : tie.Need-same-length-4
-same-length-4 c = search needs
-
 returns-2 : tie.Need-returns-2
-returns-2 c =
-    let a = c .before .before .before .before .before .before .before .before .before .before .before .before .before .before .before .before .before .before .args in
-    rw (c .before .before .backs .ensures) (drop-inner (a .n) (a .xs .now) (a .ys .now) _ _ (a .links .now) (a .marks .now) _ _ (a .i) (omega arith) (c .before .before .before .before .before .before .before .before .before .before .before .before .before .before .before .if1 .left) (c .before .before .before .before .before .before .before .before .before .before .move-node .ensures))
+returns-2 c = drop-inner _ _ _ _ _ (omega arith) (c .before .before .before .before .before .before .if1 .left) (c .before .before .before .before .move-node .ensures) (c .before .backs .ensures)
 
 pub drop-node-spec : {M : Type 1} → statement M
 drop-node-spec =
-    tie.close
-    (tie.spec
-    sub-last
-    returns
-    move-node-requires
-    backs-requires
-    same-length
-    same-length-2
-    same-length-3
-    same-length-4
-    returns-2)
+    tie.close (tie.spec sub-last returns move-node-requires backs-requires same-length returns-2)

@@ -1,70 +1,48 @@
+use Rattle.prune.proofs.Lent.{moved-by}
 use Prim.Native.Nat.{_-_}
-use mathlib.Core.Path.{_∙_}
 use native.Mathlib.Omega.{arith}
 use borrow.Author.Needs.{needs}
-use Rattle.prune.proofs.Lent.{moved-graph}
 use Rattle.prune.proofs.move_node.Statement.{statement}
 use Rattle.prune.proofs.move_node.Tie as tie
 
-at-requires : tie.Need-at-requires
-at-requires c κs = search needs
+x-of-requires : tie.Need-x-of-requires
+x-of-requires c κs = search needs
 
-put-requires : tie.Need-put-requires
-put-requires c κs = search needs
+y-of-requires : tie.Need-y-of-requires
+y-of-requires c κs = search needs
 
-at-requires-2 : tie.Need-at-requires-2
-at-requires-2 c κs = search needs
-
-put-requires-2 : tie.Need-put-requires-2
-put-requires-2 c κs = search needs
+put-place-requires : tie.Need-put-place-requires
+put-place-requires c κs = search needs
 
 move-links-requires : tie.Need-move-links-requires
 move-links-requires c κs = search needs
 
-mul-m : tie.Need-mul-m
-mul-m c = search needs
+mark-of-requires : tie.Need-mark-of-requires
+mark-of-requires c κs = search needs
 
-slice-read-m : tie.Need-slice-read-m
-slice-read-m c = search needs
-
-mul-marks : tie.Need-mul-marks
-mul-marks c = search needs
-
-slice-write-marks : tie.Need-slice-write-marks
-slice-write-marks c = search needs
+put-mark-requires : tie.Need-put-mark-requires
+put-mark-requires c κs = search needs
 
 same-length : tie.Need-same-length
 same-length c = search needs
 
-same-length-2 : tie.Need-same-length-2
-same-length-2 c = search needs
-
-same-length-3 : tie.Need-same-length-3
-same-length-3 c = search needs
-
-same-length-4 : tie.Need-same-length-4
-same-length-4 c = search needs
-
 returns : tie.Need-returns
 returns c =
-    let a = c .before .before .before .before .before .before .before .before .before .before .before .before .before .before .before .before .before .args in
-    rw (c .before .before .before .move-links .ensures) (moved-graph (a .n) (a .xs .now) (a .ys .now) _ _ (a .links .now) (a .marks .now) (a .i) (a .j) (omega arith) (c .before .before .before .before .before .before .before .before .before .before .before .put .ensures ∙ rw (c .before .before .before .before .before .before .before .before .before .before .before .before .at .ensures)) (c .before .before .before .before .before .before .put2 .ensures ∙ rw (c .before .before .before .before .before .before .before .at2 .ensures)))
+    let at-move-links = c .before .before .before .before .before .before in
+    let at-put-place = at-move-links .before .before .before in
+    let at-y-of = at-put-place .before in
+    let at-x-of = at-y-of .before .before in
+    moved-by _ _ _ _ _ _ _ _ _ (at-x-of .x-of .ensures) (at-y-of .y-of .ensures) (at-put-place .put-place .ensures) (at-move-links .move-links .ensures) (c .before .before .mark-of .ensures) (c .before .put-mark .ensures)
 
 pub move-node-spec : {M : Type 1} → statement M
 move-node-spec =
     tie.close
     (tie.spec
-    at-requires
-    put-requires
-    at-requires-2
-    put-requires-2
+    x-of-requires
+    y-of-requires
+    put-place-requires
     move-links-requires
-    mul-m
-    slice-read-m
-    mul-marks
-    slice-write-marks
+    mark-of-requires
+    put-mark-requires
     same-length
-    same-length-2
-    same-length-3
-    same-length-4
     returns)

@@ -1,47 +1,36 @@
+use lib.ListN.{length}
 use Prim.Native.Nat.{_-_}
-use mathlib.Core.Path.{refl}
+use mathlib.Core.Path.{_≡_, refl}
 use native.Mathlib.Omega.{arith}
 use borrow.Author.Needs.{needs}
-use Rattle.nodes.specs.Lent.{graph}
-use Rattle.nodes.proofs.Nodes.{Kept, still}
+use Rattle.nodes.specs.Columns.{graph}
 use Rattle.prune.proofs.Lent.{Pruning, prune-on, prune-done}
 use Rattle.prune.proofs.remove_redundant_nodes.Statement.{statement}
 use Rattle.prune.proofs.remove_redundant_nodes.Tie as tie
 
 abbrev Inv-loop : tie.InvT-loop
-Inv-loop xs₀ ys₀ links₀ marks₀ n count₀ i₀ xs ys links marks count i = Pruning (graph n xs₀ ys₀ links₀ marks₀) n (graph count xs ys links marks) i × Kept xs₀ ys₀ links₀ marks₀ xs ys links marks
+Inv-loop nodes₀ n count₀ i₀ nodes count i = Pruning (graph n nodes₀) n (graph count nodes) i × (length nodes ≡ length nodes₀)
 
 abbrev μ-loop : tie.MeasureT-loop
-μ-loop xs₀ ys₀ links₀ marks₀ n count₀ i₀ xs ys links marks count i = i
+μ-loop nodes₀ n count₀ i₀ nodes count i = i
 
 loop-holds : tie.Need-loop-holds Inv-loop μ-loop
-loop-holds c =
-    (record { reached = omega arith; few = omega arith; rest = refl }, record { x-kept = refl; y-kept = refl; link-kept = refl; mark-kept = refl })
+loop-holds c = (record { reached = omega arith; few = omega arith; rest = refl }, refl)
 
 sub-i : tie.Need-sub-i Inv-loop μ-loop
 sub-i c = search needs
 
 prune-at-requires : tie.Need-prune-at-requires Inv-loop μ-loop
-prune-at-requires c κs = (still (c .before .before .before .before .before .before .before .before .pre .0) (c .before .before .before .before .before .loop .inv .1), omega arith)
+prune-at-requires c κs = (omega arith, omega arith, omega (arith, c .before .before .before .pre .1, c .before .before .loop .inv .1))
 
 loop-less : tie.Need-loop-less Inv-loop μ-loop
 loop-less c = search needs
 
 loop-again : tie.Need-loop-again Inv-loop μ-loop
-loop-again c =
-    (prune-on _ (c .before .before .before .before .before .before .before .before .before .before .before .before .loop .inv .0) (c .before .before .before .before .before .before .before .before .before .before .before .loop-test .taken) (c .before .before .before .before .before .before .prune-at .ensures .0) (omega arith) (omega arith), search needs)
+loop-again c = (prune-on _ (c .before .before .before .before .loop .inv .0) (c .before .before .before .loop-test .taken) (c .before .prune-at .ensures .0) (omega arith) (omega arith), search needs)
 
 same-length : tie.Need-same-length Inv-loop μ-loop
 same-length c = search needs
-
-same-length-2 : tie.Need-same-length-2 Inv-loop μ-loop
-same-length-2 c = search needs
-
-same-length-3 : tie.Need-same-length-3 Inv-loop μ-loop
-same-length-3 c = search needs
-
-same-length-4 : tie.Need-same-length-4 Inv-loop μ-loop
-same-length-4 c = search needs
 
 returns : tie.Need-returns Inv-loop μ-loop
 returns c = prune-done (c .before .loop .inv .0) (omega arith) refl
@@ -58,7 +47,4 @@ remove-redundant-nodes-spec =
     loop-less
     loop-again
     same-length
-    same-length-2
-    same-length-3
-    same-length-4
     returns)

@@ -10,23 +10,20 @@ nearest-end-requires c κs = search needs
 returns : tie.Need-returns
 returns c = (joined-nearest _ _ _ _ _ (c .before .if1 .taken) (c .nearest-end .ensures .0), c .nearest-end .ensures .1)
 
-sub-at : tie.Need-sub-at
-sub-at c = search needs
+sub-last : tie.Need-sub-last
+sub-last c = search needs
 
-at-requires : tie.Need-at-requires
-at-requires c κs = search needs
+x-at-requires : tie.Need-x-at-requires
+x-at-requires c κs = (c .before .before .before .pre .0, search needs)
 
-sub-at-2 : tie.Need-sub-at-2
-sub-at-2 c = search needs
-
-at-requires-2 : tie.Need-at-requires-2
-at-requires-2 c κs = search needs
+y-at-requires : tie.Need-y-at-requires
+y-at-requires c κs = (c .before .before .before .before .pre .0, search needs)
 
 junction-end-requires : tie.Need-junction-end-requires
 junction-end-requires c κs = search needs
 
 returns-2 : tie.Need-returns-2
-returns-2 c = (joined-at _ _ _ _ _ _ _ (c .before .before .before .if1 .left) (c .before .before .at .ensures) (c .before .at2 .ensures) (c .junction-end .ensures .0), c .junction-end .ensures .1)
+returns-2 c = (joined-at _ _ _ _ _ _ _ (c .before .before .before .if1 .left) (c .before .before .x-at .ensures) (c .before .y-at .ensures) (c .junction-end .ensures .0), c .junction-end .ensures .1)
 
 pub joined-end-spec : {M : Type 1} → statement M
 joined-end-spec =
@@ -34,9 +31,8 @@ joined-end-spec =
     (tie.spec
     nearest-end-requires
     returns
-    sub-at
-    at-requires
-    sub-at-2
-    at-requires-2
+    sub-last
+    x-at-requires
+    y-at-requires
     junction-end-requires
     returns-2)

@@ -7,7 +7,7 @@ use Rattle.routing.proofs.route_branch.Statement.{statement}
 use Rattle.routing.proofs.route_branch.Tie as tie
 
 joined-end-requires : tie.Need-joined-end-requires
-joined-end-requires c κs = search needs
+joined-end-requires c κs = (c .before .before .before .before .before .pre .0, search needs)
 
 mul-ex : tie.Need-mul-ex
 mul-ex c = search needs
@@ -58,7 +58,7 @@ junction-of-requires : tie.Need-junction-of-requires
 junction-of-requires c κs = search needs
 
 route-wire-requires : tie.Need-route-wire-requires
-route-wire-requires c κs = search needs
+route-wire-requires c κs = let p = c .before .before .before .before .before .before .before .before .before .before .before .before .before .before .before .pre in (p .0, (p .1 .0, (p .1 .1 .0 .0, p .1 .1 .0 .2, p .1 .1 .0 .3)))
 
 same-length : tie.Need-same-length
 same-length c = search needs
@@ -73,16 +73,26 @@ same-length-4 : tie.Need-same-length-4
 same-length-4 c = search needs
 
 returns : tie.Need-returns
-returns c = (branch-tried _ _ _ _ _ _ (c .before .before .before .before .before .before .before .before .before .before .before .before .before .before .before .before .before .before .joined-end .ensures .0) _ (c .before .before .before .before .before .before .before .before .before .before .before .before .before .junction-of .ensures) _ (c .before .before .before .before .before .before .before .before .route-wire .ensures), branch-refused _ _ _ _ _ _ (c .before .before .before .before .before .before .before .before .before .before .before .before .before .before .before .before .before .before .joined-end .ensures .0) _ (c .before .before .before .before .before .before .before .before .before .before .before .before .before .junction-of .ensures) _ (c .before .before .before .before .before .before .before .before .route-wire .ensures) _ _ (c .if1 .taken))
+returns c =
+    let at-route-wire = c .before .before .before .before .before .before .before .before in
+    let at-junction-of = at-route-wire .before .before .before .before .before in
+    let at-joined-end = at-junction-of .before .before .before .before .before in
+    (branch-tried _ _ _ _ _ _ (at-joined-end .joined-end .ensures .0) _ (at-junction-of .junction-of .ensures) _ (at-route-wire .route-wire .ensures), branch-refused _ _ _ _ _ _ (at-joined-end .joined-end .ensures .0) _ (at-junction-of .junction-of .ensures) _ (at-route-wire .route-wire .ensures) _ _ (c .if1 .taken))
 
 sub-last : tie.Need-sub-last
-sub-last c = let p = c .before .before .before .before .before .before .before .before .before .before .before .before .before .before .before .before .before .before .before .before .before .before .before .before .before .before .pre .1 .1 .0 in let k = made _ _ _ _ _ _ _ _ _ _ (c .before .before .before .before .before .before .before .before .before .route-wire .ensures) (p .0) (p .2) (c .before .if1 .left) in omega arith
+sub-last c =
+    let at-route-wire = c .before .before .before .before .before .before .before .before .before in
+    let entry = at-route-wire .before .before .before .before .before .before .before .before .before .before .before .before .before .before .before .before in
+    let p = entry .pre .1 .1 .0 in let k = made _ _ _ _ _ _ _ _ _ _ (at-route-wire .route-wire .ensures) (p .0) (p .2) (c .before .if1 .left) in omega arith
 
 cast-put-junction : tie.Need-cast-put-junction
-cast-put-junction c = let p = c .before .before .before .before .before .before .before .before .before .before .before .before .before .before .before .before .before .before .before .before .before .before .before .before .before .before .before .pre .1 .1 .0 in let k = made _ _ _ _ _ _ _ _ _ _ (c .before .before .before .before .before .before .before .before .before .before .route-wire .ensures) (p .0) (p .2) (c .before .before .if1 .left) in omega arith
+cast-put-junction c =
+    let at-route-wire = c .before .before .before .before .before .before .before .before .before .before in
+    let entry = at-route-wire .before .before .before .before .before .before .before .before .before .before .before .before .before .before .before .before in
+    let p = entry .pre .1 .1 .0 in let k = made _ _ _ _ _ _ _ _ _ _ (at-route-wire .route-wire .ensures) (p .0) (p .2) (c .before .before .if1 .left) in omega arith
 
 put-junction-requires : tie.Need-put-junction-requires
-put-junction-requires c κs = c .before .before .before .before .before .before .before .before .before .before .before .before .before .before .before .before .before .before .before .before .before .before .before .before .before .before .before .pre .1 .1 .1
+put-junction-requires c κs = c .before .before .before .before .before .before .before .before .before .before .before .before .before .before .before .before .before .before .before .before .before .before .before .before .before .before .pre .1 .1 .1
 
 same-length-5 : tie.Need-same-length-5
 same-length-5 c = search needs
@@ -100,7 +110,11 @@ same-length-9 : tie.Need-same-length-9
 same-length-9 c = search needs
 
 returns-2 : tie.Need-returns-2
-returns-2 c = (branch-tried _ _ _ _ _ _ (c .before .before .before .before .before .before .before .before .before .before .before .before .before .before .before .before .before .before .before .before .before .before .before .joined-end .ensures .0) _ (c .before .before .before .before .before .before .before .before .before .before .before .before .before .before .before .before .before .before .junction-of .ensures) _ (c .before .before .before .before .before .before .before .before .before .before .before .before .before .route-wire .ensures), branch-joined _ _ _ _ _ _ (c .before .before .before .before .before .before .before .before .before .before .before .before .before .before .before .before .before .before .before .before .before .before .before .joined-end .ensures .0) _ (c .before .before .before .before .before .before .before .before .before .before .before .before .before .before .before .before .before .before .junction-of .ensures) _ (c .before .before .before .before .before .before .before .before .before .before .before .before .before .route-wire .ensures) _ _ _ (c .before .before .before .before .before .if1 .left) (c .before .before .put-junction .ensures))
+returns-2 c =
+    let at-route-wire = c .before .before .before .before .before .before .before .before .before .before .before .before .before in
+    let at-junction-of = at-route-wire .before .before .before .before .before in
+    let at-joined-end = at-junction-of .before .before .before .before .before in
+    (branch-tried _ _ _ _ _ _ (at-joined-end .joined-end .ensures .0) _ (at-junction-of .junction-of .ensures) _ (at-route-wire .route-wire .ensures), branch-joined _ _ _ _ _ _ (at-joined-end .joined-end .ensures .0) _ (at-junction-of .junction-of .ensures) _ (at-route-wire .route-wire .ensures) _ _ _ (c .before .before .before .before .before .if1 .left) (c .before .before .put-junction .ensures))
 
 pub route-branch-spec : {M : Type 1} → statement M
 route-branch-spec =

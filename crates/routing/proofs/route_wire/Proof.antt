@@ -21,10 +21,15 @@ same-length-4 : tie.Need-same-length-4
 same-length-4 c = search needs
 
 returns : tie.Need-returns
-returns c = route-fallback _ _ _ _ _ _ _ _ _ _ (c .before .before .before .before .before .before .before .before .before .before .before .if1 .taken) (c .before .before .before .before .before .before .fallback-wire .ensures)
+returns c =
+    let at-fallback-wire = c .before .before .before .before .before .before in
+    let at-if1 = at-fallback-wire .before .before .before .before .before in
+    route-fallback _ _ _ _ _ _ _ _ _ _ (at-if1 .if1 .taken) (at-fallback-wire .fallback-wire .ensures)
 
 line-wire-requires : tie.Need-line-wire-requires
-line-wire-requires c κs = search needs
+line-wire-requires c κs =
+    let p = c .before .before .before .before .before .before .before .before .pre in
+    (p .0, (p .1 .0, (omega (arith, c .before .before .before .before .if1 .left), p .1 .1 .0, p .1 .1 .1, p .1 .1 .2)))
 
 same-length-5 : tie.Need-same-length-5
 same-length-5 c = search needs
@@ -39,7 +44,10 @@ same-length-8 : tie.Need-same-length-8
 same-length-8 c = search needs
 
 returns-2 : tie.Need-returns-2
-returns-2 c = route-line _ _ _ _ _ _ _ _ _ _ (c .before .before .before .before .before .before .before .before .before .before .before .if1 .left) (c .before .before .before .before .before .before .line-wire .ensures)
+returns-2 c =
+    let at-line-wire = c .before .before .before .before .before .before in
+    let at-if1 = at-line-wire .before .before .before .before .before in
+    route-line _ _ _ _ _ _ _ _ _ _ (at-if1 .if1 .left) (at-line-wire .line-wire .ensures)
 
 pub route-wire-spec : {M : Type 1} → statement M
 route-wire-spec =

@@ -4,9 +4,8 @@ use native.Mathlib.Omega.{arith}
 use lib.ListN.{length}
 use borrow.Author.Needs.{needs}
 use Rattle.nodes.specs.Graph.{empty}
-use Rattle.nodes.specs.Lent.{graph}
+use Rattle.nodes.specs.Columns.{graph}
 use Rattle.nodes.specs.Map.{Keyed}
-use Rattle.nodes.proofs.Nodes.{Kept, still}
 use Rattle.scan.specs.Lent.{anchors as anchors-of}
 use Rattle.scan.specs.Scan.{place-anchor, build-nodes}
 use Rattle.scan.proofs.Folds.{Folding, fold-begin, fold-on, fold-crowded, fold-arrived}
@@ -15,26 +14,28 @@ use Rattle.scan.proofs.build_nodes.Statement.{statement}
 use Rattle.scan.proofs.build_nodes.Tie as tie
 
 abbrev Inv-loop : tie.InvT-loop
-Inv-loop cx cy dirs own explicit anchors xs₀ ys₀ links₀ marks₀ map₀ count₀ k₀ xs ys links marks map count k = Folding (place-anchor (anchors-of cx cy dirs own explicit anchors)) anchors empty (graph count xs ys links marks) k × Kept xs₀ ys₀ links₀ marks₀ xs ys links marks × Keyed map xs ys count × (length map ≡ length map₀)
+Inv-loop anchors explicit a nodes₀ map₀ count₀ k₀ nodes map count k = Folding (place-anchor (anchors-of anchors explicit a)) a empty (graph count nodes) k × (length nodes ≡ length nodes₀) × Keyed map nodes count × (length map ≡ length map₀)
 
 abbrev μ-loop : tie.MeasureT-loop
-μ-loop cx cy dirs own explicit anchors xs₀ ys₀ links₀ marks₀ map₀ count₀ k₀ xs ys links marks map count k = anchors - k
+μ-loop anchors explicit a nodes₀ map₀ count₀ k₀ nodes map count k = a - k
 
 loop-holds : tie.Need-loop-holds Inv-loop μ-loop
-loop-holds c =
-    (fold-begin _ _ _ (omega arith), record { x-kept = refl; y-kept = refl; link-kept = refl; mark-kept = refl }, c .before .before .before .before .before .pre .1 .1, refl)
+loop-holds c = (fold-begin _ _ _ (omega arith), refl, c .before .pre .1 .1, refl)
 
-at-requires : tie.Need-at-requires Inv-loop μ-loop
-at-requires c κs = search needs
+word-requires : tie.Need-word-requires Inv-loop μ-loop
+word-requires c κs = search needs
 
-at-requires-2 : tie.Need-at-requires-2 Inv-loop μ-loop
-at-requires-2 c κs = search needs
+word-requires-2 : tie.Need-word-requires-2 Inv-loop μ-loop
+word-requires-2 c κs = search needs
 
 mark-requires : tie.Need-mark-requires Inv-loop μ-loop
 mark-requires c κs = search needs
 
 place-requires : tie.Need-place-requires Inv-loop μ-loop
-place-requires c κs = (still (c .before .before .before .before .before .before .before .before .before .before .before .before .before .before .before .pre .1 .0) (c .before .before .before .before .before .before .before .before .before .loop .inv .1), (c .before .before .before .before .before .before .before .before .before .loop .inv .0 .few, c .before .before .before .before .before .before .before .before .before .loop .inv .2))
+place-requires c κs =
+    let at-loop = c .before .before .before .before .before .before in
+    let entry = at-loop .before .before in
+    ((at-loop .loop .inv .0 .few, omega (arith, entry .pre .1 .0, at-loop .loop .inv .1)), at-loop .loop .inv .2)
 
 same-length : tie.Need-same-length Inv-loop μ-loop
 same-length c = search needs
@@ -42,19 +43,17 @@ same-length c = search needs
 same-length-2 : tie.Need-same-length-2 Inv-loop μ-loop
 same-length-2 c = search needs
 
-same-length-3 : tie.Need-same-length-3 Inv-loop μ-loop
-same-length-3 c = search needs
-
-same-length-4 : tie.Need-same-length-4 Inv-loop μ-loop
-same-length-4 c = search needs
-
-same-length-5 : tie.Need-same-length-5 Inv-loop μ-loop
-same-length-5 c = search needs
-
 returns : tie.Need-returns Inv-loop μ-loop
 unfolding build-nodes
 returns c =
-    (record { full = λ h. fold-crowded (c .before .before .before .before .before .before .before .before .before .before .before .before .before .before .before .before .before .before .before .loop .inv .0) (place-grow _) (c .before .before .before .before .before .before .before .before .before .before .before .before .before .before .before .before .before .before .loop-test .taken) (placed-by (anchors-of (c .before .before .before .before .before .before .before .before .before .before .before .before .before .before .before .before .before .before .before .before .before .before .before .before .before .args .cx .now) (c .before .before .before .before .before .before .before .before .before .before .before .before .before .before .before .before .before .before .before .before .before .before .before .before .before .args .cy .now) (c .before .before .before .before .before .before .before .before .before .before .before .before .before .before .before .before .before .before .before .before .before .before .before .before .before .args .dirs .now) (c .before .before .before .before .before .before .before .before .before .before .before .before .before .before .before .before .before .before .before .before .before .before .before .before .before .args .own .now) (c .before .before .before .before .before .before .before .before .before .before .before .before .before .before .before .before .before .before .before .before .before .before .before .before .before .args .explicit) (c .before .before .before .before .before .before .before .before .before .before .before .before .before .before .before .before .before .before .before .before .before .before .before .before .before .args .anchors)) _ _ _ _ _ (c .before .before .before .before .before .before .before .before .before .before .before .before .before .before .before .before .before .at .ensures) (c .before .before .before .before .before .before .before .before .before .before .before .before .before .before .before .before .at2 .ensures) (c .before .before .before .before .before .before .before .before .before .before .before .before .before .before .before .mark .ensures) (c .before .before .before .before .before .before .before .before .before .place .ensures .0 .built) .full h); same = λ h. absurd (omega arith) }, c .before .before .before .before .before .before .before .before .before .place .ensures .1)
+    let at-place = c .before .before .before .before in
+    let at-mark = at-place .before .before .before in
+    let at-word2 = at-mark .before in
+    let at-word = at-word2 .before in
+    let at-loop-test = at-word .before in
+    let at-loop = at-loop-test .before in
+    let entry = at-loop .before .before in
+    (record { full = λ h. fold-crowded (at-loop .loop .inv .0) (place-grow _) (at-loop-test .loop-test .taken) (placed-by (anchors-of (entry .args .anchors .now) (entry .args .explicit) (entry .args .a)) _ _ _ _ _ (at-word .word .ensures) (at-word2 .word2 .ensures) (at-mark .mark .ensures) (at-place .place .ensures .0 .built) .full h); same = λ h. absurd (omega arith) }, at-place .place .ensures .1)
 
 add-k : tie.Need-add-k Inv-loop μ-loop
 add-k c = search needs
@@ -64,27 +63,26 @@ loop-less c = search needs
 
 loop-again : tie.Need-loop-again Inv-loop μ-loop
 loop-again c =
-    (fold-on (c .before .before .before .before .before .before .before .before .before .before .before .before .before .before .before .before .before .before .before .loop .inv .0) _ _ (c .before .before .before .before .before .before .before .before .before .before .before .before .before .before .before .before .before .before .loop-test .taken) (placed-by (anchors-of (c .before .before .before .before .before .before .before .before .before .before .before .before .before .before .before .before .before .before .before .before .before .before .before .before .before .args .cx .now) (c .before .before .before .before .before .before .before .before .before .before .before .before .before .before .before .before .before .before .before .before .before .before .before .before .before .args .cy .now) (c .before .before .before .before .before .before .before .before .before .before .before .before .before .before .before .before .before .before .before .before .before .before .before .before .before .args .dirs .now) (c .before .before .before .before .before .before .before .before .before .before .before .before .before .before .before .before .before .before .before .before .before .before .before .before .before .args .own .now) (c .before .before .before .before .before .before .before .before .before .before .before .before .before .before .before .before .before .before .before .before .before .before .before .before .before .args .explicit) (c .before .before .before .before .before .before .before .before .before .before .before .before .before .before .before .before .before .before .before .before .before .before .before .before .before .args .anchors)) _ _ _ _ _ (c .before .before .before .before .before .before .before .before .before .before .before .before .before .before .before .before .before .at .ensures) (c .before .before .before .before .before .before .before .before .before .before .before .before .before .before .before .before .at2 .ensures) (c .before .before .before .before .before .before .before .before .before .before .before .before .before .before .before .mark .ensures) (c .before .before .before .before .before .before .before .before .before .place .ensures .0 .built)) (c .if1 .left) (c .if1 .left), search needs, c .before .before .before .before .before .before .before .before .before .place .ensures .1, search needs)
+    let at-place = c .before .before .before .before in
+    let at-mark = at-place .before .before .before in
+    let at-word2 = at-mark .before in
+    let at-word = at-word2 .before in
+    let at-loop-test = at-word .before in
+    let at-loop = at-loop-test .before in
+    let entry = at-loop .before .before in
+    (fold-on (at-loop .loop .inv .0) _ _ (at-loop-test .loop-test .taken) (placed-by (anchors-of (entry .args .anchors .now) (entry .args .explicit) (entry .args .a)) _ _ _ _ _ (at-word .word .ensures) (at-word2 .word2 .ensures) (at-mark .mark .ensures) (at-place .place .ensures .0 .built)) (c .if1 .left) (c .if1 .left), search needs, at-place .place .ensures .1, search needs)
 
-same-length-6 : tie.Need-same-length-6 Inv-loop μ-loop
-same-length-6 c = search needs
+same-length-3 : tie.Need-same-length-3 Inv-loop μ-loop
+same-length-3 c = search needs
 
-same-length-7 : tie.Need-same-length-7 Inv-loop μ-loop
-same-length-7 c = search needs
-
-same-length-8 : tie.Need-same-length-8 Inv-loop μ-loop
-same-length-8 c = search needs
-
-same-length-9 : tie.Need-same-length-9 Inv-loop μ-loop
-same-length-9 c = search needs
-
-same-length-10 : tie.Need-same-length-10 Inv-loop μ-loop
-same-length-10 c = search needs
+same-length-4 : tie.Need-same-length-4 Inv-loop μ-loop
+same-length-4 c = search needs
 
 returns-2 : tie.Need-returns-2 Inv-loop μ-loop
 unfolding build-nodes
 returns-2 c =
-    (record { full = λ h. absurd (omega arith); same = λ h. fold-arrived (c .before .loop .inv .0) (c .loop-test .left) }, c .before .loop .inv .2)
+    let at-loop = c .before in
+    (record { full = λ h. absurd (omega arith); same = λ h. fold-arrived (at-loop .loop .inv .0) (c .loop-test .left) }, at-loop .loop .inv .2)
 
 pub build-nodes-spec : {M : Type 1} → statement M
 build-nodes-spec =
@@ -93,22 +91,16 @@ build-nodes-spec =
     Inv-loop
     μ-loop
     loop-holds
-    at-requires
-    at-requires-2
+    word-requires
+    word-requires-2
     mark-requires
     place-requires
     same-length
     same-length-2
-    same-length-3
-    same-length-4
-    same-length-5
     returns
     add-k
     loop-less
     loop-again
-    same-length-6
-    same-length-7
-    same-length-8
-    same-length-9
-    same-length-10
+    same-length-3
+    same-length-4
     returns-2)

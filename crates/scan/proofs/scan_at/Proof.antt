@@ -5,29 +5,25 @@ use Rattle.scan.specs.Scan.{scan-at}
 use Rattle.scan.proofs.scan_at.Statement.{statement}
 use Rattle.scan.proofs.scan_at.Tie as tie
 
-at-requires : tie.Need-at-requires
-at-requires c κs = search needs
+word-requires : tie.Need-word-requires
+word-requires c κs = search needs
 
-at-requires-2 : tie.Need-at-requires-2
-at-requires-2 c κs = search needs
+word-requires-2 : tie.Need-word-requires-2
+word-requires-2 c κs = search needs
 
-mul-scan-anchor : tie.Need-mul-scan-anchor
-mul-scan-anchor c = search needs
+word-requires-3 : tie.Need-word-requires-3
+word-requires-3 c κs = search needs
 
-shared-slice-read-scan-anchor : tie.Need-shared-slice-read-scan-anchor
-shared-slice-read-scan-anchor c = search needs
-
-mul-scan-anchor-2 : tie.Need-mul-scan-anchor-2
-mul-scan-anchor-2 c = search needs
-
-shared-slice-read-scan-anchor-2 : tie.Need-shared-slice-read-scan-anchor-2
-shared-slice-read-scan-anchor-2 c = search needs
+word-requires-4 : tie.Need-word-requires-4
+word-requires-4 c κs = search needs
 
 cast-scan-anchor : tie.Need-cast-scan-anchor
-cast-scan-anchor c = omega (arith, c .shared-slice-known4 .given (c .before .before .before .before .before .before .before .before .before .before .before .before .before .before .args .k))
+cast-scan-anchor c = search needs
 
 scan-anchor-requires : tie.Need-scan-anchor-requires
-scan-anchor-requires c κs = (c .before .before .before .before .before .before .before .before .before .before .before .before .before .before .pre .0, (c .before .before .before .before .before .before .before .before .before .before .before .before .before .before .pre .1 .1 .0, (omega arith, c .before .before .before .before .before .before .before .before .before .before .before .before .before .before .pre .1 .1 .1 .1)))
+scan-anchor-requires c κs =
+    let entry = c .before .before .before .before .before .before .before in
+    (entry .pre .0, (entry .pre .1 .1 .0, (omega arith, entry .pre .1 .1 .1 .1)))
 
 same-length : tie.Need-same-length
 same-length c = search needs
@@ -35,35 +31,26 @@ same-length c = search needs
 same-length-2 : tie.Need-same-length-2
 same-length-2 c = search needs
 
-same-length-3 : tie.Need-same-length-3
-same-length-3 c = search needs
-
-same-length-4 : tie.Need-same-length-4
-same-length-4 c = search needs
-
-same-length-5 : tie.Need-same-length-5
-same-length-5 c = search needs
-
 returns : tie.Need-returns
 unfolding scan-at
 returns c =
-    (rw (← c .before .before .before .before .before .before .before .before .before .before .before .before .before .before .before .before .before .at .ensures, ← c .before .before .before .before .before .before .before .before .before .before .before .before .before .before .before .before .at2 .ensures) (c .before .before .before .before .before .before .before .before .scan-anchor .ensures .0), c .before .before .before .before .before .before .before .before .scan-anchor .ensures .1)
+    let at-scan-anchor = c .before .before .before in
+    let at-word4 = at-scan-anchor .before .before .before in
+    let at-word3 = at-word4 .before in
+    let at-word2 = at-word3 .before in
+    let at-word = at-word2 .before in
+    (rw (← at-word .word .ensures, ← at-word2 .word2 .ensures, ← at-word3 .word3 .ensures, ← at-word4 .word4 .ensures) (at-scan-anchor .scan-anchor .ensures .0), at-scan-anchor .scan-anchor .ensures .1)
 
 pub scan-at-spec : {M : Type 1} → statement M
 scan-at-spec =
     tie.close
     (tie.spec
-    at-requires
-    at-requires-2
-    mul-scan-anchor
-    shared-slice-read-scan-anchor
-    mul-scan-anchor-2
-    shared-slice-read-scan-anchor-2
+    word-requires
+    word-requires-2
+    word-requires-3
+    word-requires-4
     cast-scan-anchor
     scan-anchor-requires
     same-length
     same-length-2
-    same-length-3
-    same-length-4
-    same-length-5
     returns)

@@ -1,19 +1,43 @@
--- The scratch is as large as the graph and the ends ask.
-use mathlib.Core.Path.{_≡_}
-use mathlib.Core.Bool.{true, _&&_}
-use Prim.Native.Nat.{ℕ, _≤_}
-use lib.Dec.{leb}
-use borrow.Author.Tests.{leb-true}
-use Rattle.fixed.proofs.Bools.{and-left, and-right}
+-- The line lies at the end of `list`, and is written out from there.
+use mathlib.Core.Path.{_≡_, refl, _∙_}
+use Prim.Native.Nat.{_-_, _<_}
+use native.Mathlib.Omega.{arith}
+use lib.ListN.{length}
+use borrow.Rule.Slice.PartAt.{part-to-end}
+use Rattle.path_finding.proofs.Between.{few-lent, nodes-fit, nodes-below}
+use Rattle.search.proofs.Lines.{searched}
 use borrow.Author.Needs.{needs}
 use Rattle.search.proofs.find_path.Statement.{statement}
 use Rattle.search.proofs.find_path.Tie as tie
 
-within : (n m k : ℕ) → leb n k && leb m k ≡ true → (n ≤ k) × (m ≤ k)
-within n m k h = (leb-true _ _ (and-left _ (leb m k) h), leb-true _ _ (and-right (leb n k) _ h))
+find-between-requires : tie.Need-find-between-requires
+find-between-requires c κs =
+    let entry = c .before .before .before .before .before .before .before .before in
+    (entry .pre .0, (entry .pre .1 .0 .even, entry .pre .1 .1))
 
-find-path-256-requires : tie.Need-find-path-256-requires
-find-path-256-requires c κs = (c .before .before .before .before .before .before .before .before .before .pre .0, (c .before .before .before .before .before .before .before .before .before .pre .1, within _ _ 256 (c .before .before .before .before .if1 .taken)))
+sub-at : tie.Need-sub-at
+sub-at c = nodes-fit _ _ _ _ _ _ _ _ (c .before .before .before .before .before .before .before .find-between .ensures)
+
+mul-write-line : tie.Need-mul-write-line
+mul-write-line c =
+    let at-find-between = c .before .before .before .before .before .before .before in
+    let entry = at-find-between .before .before .before .before .before .before .before .before .before in
+    omega (arith, entry .good .1 .1 .1 .1 .1 .1 .1 .1 .1 .1 .1 .1 .0 .1, at-find-between .find-between .kept .1 .1 .1 .1 .1 .1 .1 .1 .0)
+
+sub-write-line : tie.Need-sub-write-line
+sub-write-line c = search needs
+
+part-write-line-start : tie.Need-part-write-line-start
+part-write-line-start c = search needs
+
+part-write-line-end : tie.Need-part-write-line-end
+part-write-line-end c = search needs
+
+write-line-requires : tie.Need-write-line-requires
+write-line-requires c κs =
+    let at-find-between = c .before .before .before .before .before .before .before .before .before .before .before .before .before in
+    let entry = at-find-between .before .before .before .before .before .before .before .before .before in
+    (few-lent _ _ (entry .pre .0 .0), entry .pre .0 .1, nodes-below _ _ _ _ _ _ _ _ (at-find-between .find-between .ensures) (entry .pre .0 .0) _ (part-to-end (at-find-between .find-between .last .1 .1 .1 .1 .1 .1 .1 .1 .0) (length (at-find-between .find-between .last .1 .1 .1 .1 .1 .1 .1 .1 .0) - at-find-between .find-between .result .nodes)))
 
 same-length : tie.Need-same-length
 same-length c = search needs
@@ -27,12 +51,6 @@ same-length-3 c = search needs
 same-length-4 : tie.Need-same-length-4
 same-length-4 c = search needs
 
-returns : tie.Need-returns
-returns c = search needs
-
-find-path-640-requires : tie.Need-find-path-640-requires
-find-path-640-requires c κs = (c .before .before .before .before .before .before .before .before .before .before .pre .0, (c .before .before .before .before .before .before .before .before .before .before .pre .1, within _ _ 640 (c .before .before .before .before .if2 .taken)))
-
 same-length-5 : tie.Need-same-length-5
 same-length-5 c = search needs
 
@@ -42,73 +60,28 @@ same-length-6 c = search needs
 same-length-7 : tie.Need-same-length-7
 same-length-7 c = search needs
 
-same-length-8 : tie.Need-same-length-8
-same-length-8 c = search needs
-
-returns-2 : tie.Need-returns-2
-returns-2 c = search needs
-
-find-path-1280-requires : tie.Need-find-path-1280-requires
-find-path-1280-requires c κs = (c .before .before .before .before .before .before .before .before .before .before .before .pre .0, (c .before .before .before .before .before .before .before .before .before .before .before .pre .1, within _ _ 1280 (c .before .before .before .before .if3 .taken)))
-
-same-length-9 : tie.Need-same-length-9
-same-length-9 c = search needs
-
-same-length-10 : tie.Need-same-length-10
-same-length-10 c = search needs
-
-same-length-11 : tie.Need-same-length-11
-same-length-11 c = search needs
-
-same-length-12 : tie.Need-same-length-12
-same-length-12 c = search needs
-
-returns-3 : tie.Need-returns-3
-returns-3 c = search needs
-
-find-path-4096-requires : tie.Need-find-path-4096-requires
-find-path-4096-requires c κs = search needs
-
-same-length-13 : tie.Need-same-length-13
-same-length-13 c = search needs
-
-same-length-14 : tie.Need-same-length-14
-same-length-14 c = search needs
-
-same-length-15 : tie.Need-same-length-15
-same-length-15 c = search needs
-
-same-length-16 : tie.Need-same-length-16
-same-length-16 c = search needs
-
-returns-4 : tie.Need-returns-4
-returns-4 c = search needs
+returns : tie.Need-returns
+returns c =
+    let at-write-line = c .before .before .before .before .before .before in
+    let at-find-between = at-write-line .before .before .before .before .before .before .before .before .before .before .before .before .before .before in
+    searched _ _ _ _ _ _ _ _ (at-find-between .find-between .ensures) _ _ _ _ _ (part-to-end (at-find-between .find-between .last .1 .1 .1 .1 .1 .1 .1 .1 .0) (length (at-find-between .find-between .last .1 .1 .1 .1 .1 .1 .1 .1 .0) - at-find-between .find-between .result .nodes)) (at-write-line .write-line .ensures)
 
 pub find-path-spec : {M : Type 1} → statement M
 find-path-spec =
     tie.close
     (tie.spec
-    find-path-256-requires
+    find-between-requires
+    sub-at
+    mul-write-line
+    sub-write-line
+    part-write-line-start
+    part-write-line-end
+    write-line-requires
     same-length
     same-length-2
     same-length-3
     same-length-4
-    returns
-    find-path-640-requires
     same-length-5
     same-length-6
     same-length-7
-    same-length-8
-    returns-2
-    find-path-1280-requires
-    same-length-9
-    same-length-10
-    same-length-11
-    same-length-12
-    returns-3
-    find-path-4096-requires
-    same-length-13
-    same-length-14
-    same-length-15
-    same-length-16
-    returns-4)
+    returns)

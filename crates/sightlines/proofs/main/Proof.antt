@@ -17,56 +17,47 @@ one rows width field h low high =
     place : (i : ℕ) → i < 1 → field ≡ i * width + field
     place i l = let z : i ≡ 0 = omega arith in rw z (omega arith)
 
-slice-aggregate-pad-edges : tie.Need-slice-aggregate-pad-edges
-slice-aggregate-pad-edges c = search needs
+slice-aggregate-pad : tie.Need-slice-aggregate-pad
+slice-aggregate-pad c = search needs
 
-slice-aggregate-pad-edges-2 : tie.Need-slice-aggregate-pad-edges-2
-slice-aggregate-pad-edges-2 c = search needs
+slice-aggregate-pad-2 : tie.Need-slice-aggregate-pad-2
+slice-aggregate-pad-2 c = search needs
 
-pad-edges-requires : tie.Need-pad-edges-requires
-pad-edges-requires c κs = (search needs, one _ _ _ (omega arith) (omega arith) (omega arith))
+pad-requires : tie.Need-pad-requires
+pad-requires c κs = (search needs, one _ _ _ (omega arith) (omega arith) (omega arith))
 
-slice-aggregate-pad-edges-3 : tie.Need-slice-aggregate-pad-edges-3
-slice-aggregate-pad-edges-3 c = search needs
+slice-aggregate-pad-3 : tie.Need-slice-aggregate-pad-3
+slice-aggregate-pad-3 c = search needs
 
-slice-aggregate-pad-edges-4 : tie.Need-slice-aggregate-pad-edges-4
-slice-aggregate-pad-edges-4 c = search needs
+slice-aggregate-pad-4 : tie.Need-slice-aggregate-pad-4
+slice-aggregate-pad-4 c = search needs
 
-pad-edges-requires-2 : tie.Need-pad-edges-requires-2
-pad-edges-requires-2 c κs = (search needs, one _ _ _ (omega arith) (omega arith) (omega arith))
+pad-requires-2 : tie.Need-pad-requires-2
+pad-requires-2 c κs = (search needs, one _ _ _ (omega arith) (omega arith) (omega arith))
 
-slice-aggregate-pad-edges-5 : tie.Need-slice-aggregate-pad-edges-5
-slice-aggregate-pad-edges-5 c = search needs
+slice-aggregate-pad-5 : tie.Need-slice-aggregate-pad-5
+slice-aggregate-pad-5 c = search needs
 
-slice-aggregate-pad-edges-6 : tie.Need-slice-aggregate-pad-edges-6
-slice-aggregate-pad-edges-6 c = search needs
+slice-aggregate-pad-6 : tie.Need-slice-aggregate-pad-6
+slice-aggregate-pad-6 c = search needs
 
-pad-edges-requires-3 : tie.Need-pad-edges-requires-3
-pad-edges-requires-3 c κs = (search needs, one _ _ _ (omega arith) (omega arith) (omega arith))
+pad-requires-3 : tie.Need-pad-requires-3
+pad-requires-3 c κs = (search needs, one _ _ _ (omega arith) (omega arith) (omega arith))
 
-slice-aggregate-pad-edges-7 : tie.Need-slice-aggregate-pad-edges-7
-slice-aggregate-pad-edges-7 c = search needs
+slice-aggregate-pad-7 : tie.Need-slice-aggregate-pad-7
+slice-aggregate-pad-7 c = search needs
 
-slice-aggregate-pad-edges-8 : tie.Need-slice-aggregate-pad-edges-8
-slice-aggregate-pad-edges-8 c = search needs
+slice-aggregate-pad-8 : tie.Need-slice-aggregate-pad-8
+slice-aggregate-pad-8 c = search needs
 
-pad-edges-requires-4 : tie.Need-pad-edges-requires-4
-pad-edges-requires-4 c κs = (search needs, one _ _ _ (omega arith) (omega arith) (omega arith))
+pad-requires-4 : tie.Need-pad-requires-4
+pad-requires-4 c κs = (search needs, one _ _ _ (omega arith) (omega arith) (omega arith))
 
 slice-aggregate-show : tie.Need-slice-aggregate-show
 slice-aggregate-show c = search needs
 
 slice-aggregate-show-2 : tie.Need-slice-aggregate-show-2
 slice-aggregate-show-2 c = search needs
-
-slice-aggregate-show-3 : tie.Need-slice-aggregate-show-3
-slice-aggregate-show-3 c = search needs
-
-slice-aggregate-show-4 : tie.Need-slice-aggregate-show-4
-slice-aggregate-show-4 c = search needs
-
-slice-aggregate-show-5 : tie.Need-slice-aggregate-show-5
-slice-aggregate-show-5 c = search needs
 
 show-requires : tie.Need-show-requires
 show-requires c κs = search needs
@@ -78,22 +69,19 @@ pub main-spec : {M : Type 1} → statement M
 main-spec =
     tie.close
     (tie.spec
-    slice-aggregate-pad-edges
-    slice-aggregate-pad-edges-2
-    pad-edges-requires
-    slice-aggregate-pad-edges-3
-    slice-aggregate-pad-edges-4
-    pad-edges-requires-2
-    slice-aggregate-pad-edges-5
-    slice-aggregate-pad-edges-6
-    pad-edges-requires-3
-    slice-aggregate-pad-edges-7
-    slice-aggregate-pad-edges-8
-    pad-edges-requires-4
+    slice-aggregate-pad
+    slice-aggregate-pad-2
+    pad-requires
+    slice-aggregate-pad-3
+    slice-aggregate-pad-4
+    pad-requires-2
+    slice-aggregate-pad-5
+    slice-aggregate-pad-6
+    pad-requires-3
+    slice-aggregate-pad-7
+    slice-aggregate-pad-8
+    pad-requires-4
     slice-aggregate-show
     slice-aggregate-show-2
-    slice-aggregate-show-3
-    slice-aggregate-show-4
-    slice-aggregate-show-5
     show-requires
     returns)

@@ -5,10 +5,10 @@ use Rattle.sightlines.proofs.show.Statement.{statement}
 use Rattle.sightlines.proofs.show.Tie as tie
 
 abbrev Inv-loop : tie.InvT-loop
-Inv-loop min-x min-y max-x max-y coords i₀ i = i ≤ length coords
+Inv-loop boxes coords i₀ i = i ≤ length coords
 
 abbrev μ-loop : tie.MeasureT-loop
-μ-loop min-x min-y max-x max-y coords i₀ i = length coords - i
+μ-loop boxes coords i₀ i = length coords - i
 
 loop-holds : tie.Need-loop-holds Inv-loop μ-loop
 loop-holds c = search needs

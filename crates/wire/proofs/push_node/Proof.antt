@@ -7,14 +7,16 @@ use borrow.Author.Needs.{needs}
 use Rattle.wire.proofs.push_node.Statement.{statement}
 use Rattle.wire.proofs.push_node.Tie as tie
 
-at-requires : tie.Need-at-requires
-at-requires c κs = search needs
+x-at-requires : tie.Need-x-at-requires
+x-at-requires c κs = (c .before .before .before .pre .0, search needs)
 
-at-requires-2 : tie.Need-at-requires-2
-at-requires-2 c κs = search needs
+y-at-requires : tie.Need-y-at-requires
+y-at-requires c κs = (c .before .before .before .before .pre .0, search needs)
 
 is-straight-requires : tie.Need-is-straight-requires
-is-straight-requires c κs = search needs
+is-straight-requires c κs =
+    let entry = c .before .before .before .before .before in
+    (entry .pre .0, entry .pre .1 .0)
 
 sub-push-end : tie.Need-sub-push-end
 sub-push-end c = search needs
@@ -26,7 +28,11 @@ same-length : tie.Need-same-length
 same-length c = search needs
 
 returns : tie.Need-returns
-returns c = node-straight _ _ _ _ _ _ (c .before .before .before .before .before .before .before .at .ensures) (c .before .before .before .before .before .before .at2 .ensures) _ (c .before .before .before .before .before .is-straight .ensures) _ _ (c .before .before .before .before .if1 .taken) (c .before .before .push-end .ensures .0) (c .before .before .push-end .ensures .1)
+returns c =
+    let at-push-end = c .before .before in
+    let at-y-at = at-push-end .before .before .before .before in
+    let at-x-at = at-y-at .before in
+    node-straight _ _ _ _ _ _ (at-x-at .x-at .ensures) (at-y-at .y-at .ensures) _ (c .before .before .before .before .before .is-straight .ensures) _ _ (c .before .before .before .before .if1 .taken) (at-push-end .push-end .ensures .0) (at-push-end .push-end .ensures .1)
 
 add-corner-kind : tie.Need-add-corner-kind
 add-corner-kind c = search needs
@@ -35,7 +41,10 @@ corner-kind-requires : tie.Need-corner-kind-requires
 corner-kind-requires c κs = search needs
 
 push-corner-requires : tie.Need-push-corner-requires
-push-corner-requires c κs = let h : c .before .before .before .before .before .before .before .before .before .before .before .before .before .args .n < 512 = c .before .before .before .before .before .before .before .before .before .before .before .before .before .pre .1 .1 .0 .2 (sym (c .before .before .before .before .before .before .is-straight .ensures) ∙ c .before .before .before .before .before .if1 .left) in search needs
+push-corner-requires c κs =
+    let at-is-straight = c .before .before .before .before .before .before in
+    let entry = at-is-straight .before .before .before .before .before .before in
+    let h : entry .args .n < 512 = entry .pre .1 .1 .1 .0 .2 (sym (at-is-straight .is-straight .ensures) ∙ c .before .before .before .before .before .if1 .left) in search needs
 
 same-length-2 : tie.Need-same-length-2
 same-length-2 c = search needs
@@ -50,14 +59,21 @@ same-length-5 : tie.Need-same-length-5
 same-length-5 c = search needs
 
 returns-2 : tie.Need-returns-2
-returns-2 c = node-corner _ _ _ _ _ _ (c .before .before .before .before .before .before .before .before .before .before .before .before .before .before .before .at .ensures) (c .before .before .before .before .before .before .before .before .before .before .before .before .before .before .at2 .ensures) _ (c .before .before .before .before .before .before .before .before .before .before .before .before .before .is-straight .ensures) _ _ (c .before .before .before .before .before .before .before .before .before .before .before .before .if1 .left) (c .before .before .before .before .before .before .before .before .before .before .before .corner-kind .ensures) (c .before .before .before .before .before .before .push-corner .ensures)
+returns-2 c =
+    let at-push-corner = c .before .before .before .before .before .before in
+    let at-corner-kind = at-push-corner .before .before .before .before .before in
+    let at-if1 = at-corner-kind .before in
+    let at-is-straight = at-if1 .before in
+    let at-y-at = at-is-straight .before in
+    let at-x-at = at-y-at .before in
+    node-corner _ _ _ _ _ _ (at-x-at .x-at .ensures) (at-y-at .y-at .ensures) _ (at-is-straight .is-straight .ensures) _ _ (at-if1 .if1 .left) (at-corner-kind .corner-kind .ensures) (at-push-corner .push-corner .ensures)
 
 pub push-node-spec : {M : Type 1} → statement M
 push-node-spec =
     tie.close
     (tie.spec
-    at-requires
-    at-requires-2
+    x-at-requires
+    y-at-requires
     is-straight-requires
     sub-push-end
     push-end-requires

@@ -6,14 +6,17 @@ use Rattle.vectors.proofs.dump.anchors_are.Statement.{statement}
 use Rattle.vectors.proofs.dump.anchors_are.Tie as tie
 
 abbrev Inv-loop : tie.InvT-loop
-Inv-loop list n xs ys ways m₀ i₀ m i =
+Inv-loop list n anchors m₀ i₀ m i =
     (i ≤ n) × (m .next ≤ length list)
 
 abbrev μ-loop : tie.MeasureT-loop
-μ-loop list n xs ys ways m₀ i₀ m i = n - i
+μ-loop list n anchors m₀ i₀ m i = n - i
 
 loop-holds : tie.Need-loop-holds Inv-loop μ-loop
 loop-holds c = search needs
+
+add-at : tie.Need-add-at Inv-loop μ-loop
+add-at c = search needs
 
 at-requires : tie.Need-at-requires Inv-loop μ-loop
 at-requires c κs = search needs
@@ -24,11 +27,11 @@ at-requires-2 c κs = search needs
 place-is-requires : tie.Need-place-is-requires Inv-loop μ-loop
 place-is-requires c κs = search needs
 
-mul-number-is : tie.Need-mul-number-is Inv-loop μ-loop
-mul-number-is c = search needs
+add-at-2 : tie.Need-add-at-2 Inv-loop μ-loop
+add-at-2 c = search needs
 
-shared-slice-read-number-is : tie.Need-shared-slice-read-number-is Inv-loop μ-loop
-shared-slice-read-number-is c = search needs
+at-requires-3 : tie.Need-at-requires-3 Inv-loop μ-loop
+at-requires-3 c κs = search needs
 
 number-is-requires : tie.Need-number-is-requires Inv-loop μ-loop
 number-is-requires c κs = search needs
@@ -52,11 +55,12 @@ anchors-are-spec =
     Inv-loop
     μ-loop
     loop-holds
+    add-at
     at-requires
     at-requires-2
     place-is-requires
-    mul-number-is
-    shared-slice-read-number-is
+    add-at-2
+    at-requires-3
     number-is-requires
     add-i
     loop-less

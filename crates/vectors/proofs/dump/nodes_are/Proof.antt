@@ -6,11 +6,11 @@ use Rattle.vectors.proofs.dump.nodes_are.Statement.{statement}
 use Rattle.vectors.proofs.dump.nodes_are.Tie as tie
 
 abbrev Inv-loop : tie.InvT-loop
-Inv-loop list n xs ys links marks m₀ i₀ m i =
+Inv-loop list n nodes m₀ i₀ m i =
     (i ≤ n) × (m .next ≤ length list)
 
 abbrev μ-loop : tie.MeasureT-loop
-μ-loop list n xs ys links marks m₀ i₀ m i = n - i
+μ-loop list n nodes m₀ i₀ m i = n - i
 
 loop-holds : tie.Need-loop-holds Inv-loop μ-loop
 loop-holds c = search needs
