@@ -9,9 +9,9 @@ ghost use Rattle.nodes.specs.Graph.{NODES};
 ghost use Rattle.nodes.specs.Columns.{GRAPH-WORDS, graphIn};
 ghost use Rattle.path_finding.specs.Places.{knownTo};
 ghost use Rattle.wire.specs.Wires.{verticesIn, verticesOut};
-ghost use Rattle.net.specs.Nets.{END-WORDS, routeNet, net, connectNet, branchedIn, branchedOut};
+ghost use Rattle.net.specs.Nets.{END-WORDS, net, connectNet, branchedIn, branchedOut};
 ghost use Rattle.net.specs.Lent.{Searching, Page, Bounds};
-ghost use Rattle.connect.specs.Turns.{turnAt, turnsTo, outcome};
+ghost use Rattle.connect.specs.Turns.{turnAt, turnsTo};
 use net::Done;
 use net::Made;
 
@@ -139,57 +139,6 @@ fn turns(
     made
 }
 
-// Root wire and branches of a net with two endpoints or more.
-fn route_net(
-    nodes: &[i32],
-    n: usize,
-    px: &[u32],
-    py: &[u32],
-    x: &mut [i32],
-    y: &mut [i32],
-    letters: &mut [u8],
-    count: usize,
-    joins: &mut [u32],
-    j: usize,
-    rows: &mut [u32],
-    cells: &mut [u64],
-    tree: &mut [u64],
-    list: &mut [u32],
-) -> Done
-    requires { ⌜ Searching n (now nodes) (now cells) (now tree) (now list) ⌝ }
-    requires { ⌜ (2 ≤ length (now px)) × (length (now px) ≤ 256) × (length (now py) ≡ length (now px)) ⌝ }
-    requires { ⌜ (512 ≤ length (now x)) × (512 ≤ length (now y)) × (512 ≤ length (now letters)) × (768 ≤ length (now joins)) × (count ≤ 512) × (2 * j ≤ count) ⌝ }
-    requires { ⌜ length (now rows) ≡ END-WORDS ⌝ }
-    ensures { λ r. ⌜ net (r .number) (verticesOut x y letters (r .n)) (new joins) (r .j) ≡ outcome (routeNet (graphIn n nodes) (old px) (old py) (verticesIn x y letters count) (old joins) j) ⌝ }
-{
-    let p = routing::pick_root_path(px, py);
-    let a = p / px.len();
-    let b = p % px.len();
-    let t = turns(
-        nodes,
-        n,
-        px,
-        py,
-        a,
-        b,
-        x,
-        y,
-        letters,
-        count,
-        rows,
-        joins,
-        j,
-        cells,
-        tree,
-        list,
-    );
-    Done {
-        number: t.number,
-        n: t.n,
-        j: t.j,
-    }
-}
-
 // 12 if the net has under two endpoints, 13 if one of them is no node, else 0.
 fn prior(nodes: &[i32], n: usize, px: &[u32], py: &[u32]) -> u32
     requires { ⌜ (n ≤ NODES) × (GRAPH-WORDS ≤ length (now nodes)) × (length (now py) ≡ length (now px)) ⌝ }
@@ -231,24 +180,33 @@ pub fn connect_net(
     if number != 0 {
         return net::refuse(number, x, y, letters, count, joins, j);
     }
-    let r = route_net(
+    let p = routing::pick_root_path(px, py);
+    let a = p / px.len();
+    let b = p % px.len();
+    let t = turns(
         nodes,
         n,
         px,
         py,
+        a,
+        b,
         x,
         y,
         letters,
         count,
+        rows,
         joins,
         j,
-        rows,
         cells,
         tree,
         list,
     );
-    if r.number != 0 {
-        return net::refuse(r.number, x, y, letters, count, joins, j);
+    if t.number != 0 {
+        return net::refuse(t.number, x, y, letters, count, joins, j);
     }
-    r
+    Done {
+        number: t.number,
+        n: t.n,
+        j: t.j,
+    }
 }

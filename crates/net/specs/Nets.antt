@@ -40,12 +40,14 @@ rootFrom px py = rootPair px py (length px) / length px
 abbrev pub rootTo : List ℕ → List ℕ → ℕ
 rootTo px py = rootPair px py (length px) % length px
 
--- the root wire from (sx, sy) to (tx, ty), and from endpoint a to endpoint b
-abbrev pub rootWireTo : Graph → ℕ → ℕ → ℕ → ℕ → Wires → Tried
-rootWireTo G sx sy tx ty W = routeWire (foundLine G sx sy (tx ∷ []) (ty ∷ [])) sx sy tx ty (along G sx sy) true None W
-
+-- the root wire from endpoint a to endpoint b
 unfoldable pub rootWire : Graph → List ℕ → List ℕ → ℕ → ℕ → Wires → Tried
-rootWire G px py a b W = rootWireTo G (getD px a 0) (getD py a 0) (getD px b 0) (getD py b 0) W
+rootWire G px py a b W =
+    let sx = getD px a 0 in
+    let sy = getD py a 0 in
+    let ex = getD px b 0 in
+    let ey = getD py b 0 in
+    routeWire (foundLine G sx sy (ex ∷ []) (ey ∷ [])) sx sy ex ey (along G sx sy) true None W
 
 -- ---- the branches, `route_branch_wires`
 

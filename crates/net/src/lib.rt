@@ -14,13 +14,16 @@ ghost use Rattle.path_finding.specs.Places.{line-between, knownTo};
 ghost use Rattle.wire.specs.Wires.{ends as endsOf, verticesIn, verticesOut, wiresIn, wiresOut};
 ghost use Rattle.routing.specs.Branches.{tried, routeBranch, joinBranch};
 ghost use Rattle.net.specs.Points.{ROW, owns as ownsRow, column};
-ghost use Rattle.net.specs.Nets.{alongAt, along as alongFrom, endWord, branchPath, branchLine, branchFrom, branchAt, net, refused, rootWire, branchedIn, branchedOut, rootWireTo};
+ghost use Rattle.net.specs.Nets.{alongAt, along as alongFrom, endWord, branchPath, branchLine, branchAt, net, refused, rootWire, branchedIn, branchedOut};
 ghost use Rattle.net.specs.Lent.{Searching, Page, Bounds};
 use routing::Step;
 use vertex::Junction;
 
 // Words of an endpoint's row.
 const ROW: usize = 4;
+
+// So many ends have smaller columns, which take less time to clear.
+const FEW: usize = 256;
 
 // What a net leaves: its number, and how many vertices and junctions the page has then.
 pub struct Done {
@@ -180,73 +183,6 @@ fn branch_line_in(
     list.len() - a.nodes
 }
 
-// The same for at most 256 ends, whose columns take less time to clear.
-fn branch_line_few(
-    nodes: &[i32],
-    n: usize,
-    sx: u32,
-    sy: u32,
-    rows: &[u32],
-    m: usize,
-    cells: &mut [u64],
-    tree: &mut [u64],
-    list: &mut [u32],
-) -> usize
-    requires { ⌜ Searching n (now nodes) (now cells) (now tree) (now list) ⌝ }
-    requires { ⌜ (m ≤ 4096) × (16384 ≤ length (now rows)) ⌝ }
-    requires { ⌜ m ≤ 256 ⌝ }
-    ensures { λ r. ⌜ (r ≤ length (new list)) × (drop r (new list) ≡ branchPath (graphIn n nodes) sx sy (endsOf (old rows) m)) ⌝ }
-{
-    let mut ex: [i32; 256] = [0; 256];
-    let mut ey: [i32; 256] = [0; 256];
-    branch_line_in(
-        nodes,
-        n,
-        sx,
-        sy,
-        rows,
-        m,
-        cells,
-        tree,
-        list,
-        &mut ex,
-        &mut ey,
-    )
-}
-
-// The same for any number of ends.
-fn branch_line_many(
-    nodes: &[i32],
-    n: usize,
-    sx: u32,
-    sy: u32,
-    rows: &[u32],
-    m: usize,
-    cells: &mut [u64],
-    tree: &mut [u64],
-    list: &mut [u32],
-) -> usize
-    requires { ⌜ Searching n (now nodes) (now cells) (now tree) (now list) ⌝ }
-    requires { ⌜ (m ≤ 4096) × (16384 ≤ length (now rows)) ⌝ }
-    ensures { λ r. ⌜ (r ≤ length (new list)) × (drop r (new list) ≡ branchPath (graphIn n nodes) sx sy (endsOf (old rows) m)) ⌝ }
-{
-    let mut ex: [i32; 4096] = [0; 4096];
-    let mut ey: [i32; 4096] = [0; 4096];
-    branch_line_in(
-        nodes,
-        n,
-        sx,
-        sy,
-        rows,
-        m,
-        cells,
-        tree,
-        list,
-        &mut ex,
-        &mut ey,
-    )
-}
-
 // The line from (sx, sy) to one of the net's m ends.
 fn branch_line(
     nodes: &[i32],
@@ -263,53 +199,37 @@ fn branch_line(
     requires { ⌜ (m ≤ 4096) × (16384 ≤ length (now rows)) ⌝ }
     ensures { λ r. ⌜ (r ≤ length (new list)) × (drop r (new list) ≡ branchPath (graphIn n nodes) sx sy (endsOf (old rows) m)) ⌝ }
 {
-    if m <= 256 {
-        return branch_line_few(nodes, n, sx, sy, rows, m, cells, tree, list);
+    if m <= FEW {
+        let mut ex: [i32; FEW] = [0; FEW];
+        let mut ey: [i32; FEW] = [0; FEW];
+        return branch_line_in(
+            nodes,
+            n,
+            sx,
+            sy,
+            rows,
+            m,
+            cells,
+            tree,
+            list,
+            &mut ex,
+            &mut ey,
+        );
     }
-    branch_line_many(nodes, n, sx, sy, rows, m, cells, tree, list)
-}
-
-// The root wire from (sx, sy) to (tx, ty), the first of its net.
-fn root_wire(
-    nodes: &[i32],
-    n: usize,
-    sx: u32,
-    sy: u32,
-    tx: u32,
-    ty: u32,
-    x: &mut [i32],
-    y: &mut [i32],
-    letters: &mut [u8],
-    count: usize,
-    rows: &mut [u32],
-    cells: &mut [u64],
-    tree: &mut [u64],
-    list: &mut [u32],
-) -> Step
-    requires { ⌜ Searching n (now nodes) (now cells) (now tree) (now list) ⌝ }
-    requires { ⌜ Page (length (now x)) (length (now y)) (length (now letters)) (length (now rows)) ⌝ }
-    requires { ⌜ count ≤ 512 ⌝ }
-    ensures { λ r. ⌜ tried (r .number) (wiresOut x y letters (r .n) rows (r .m)) ≡ rootWireTo (graphIn n nodes) sx sy tx ty (wiresIn x y letters count rows 0) ⌝ }
-{
-    let ahead = along(nodes, n, sx, sy);
-    let at = root_line(nodes, n, sx, sy, tx, ty, cells, tree, list);
-    routing::route_wire(
+    let mut ex: [i32; nodes::NODES] = [0; nodes::NODES];
+    let mut ey: [i32; nodes::NODES] = [0; nodes::NODES];
+    branch_line_in(
         nodes,
         n,
-        &list[at..],
         sx,
         sy,
-        tx,
-        ty,
-        ahead,
-        true,
-        Junction::None,
-        x,
-        y,
-        letters,
-        count,
         rows,
-        0,
+        m,
+        cells,
+        tree,
+        list,
+        &mut ex,
+        &mut ey,
     )
 }
 
@@ -386,49 +306,6 @@ fn with_junction(t: Step, j: usize) -> Made
     }
 }
 
-// The branch from (sx, sy) with its junction.
-fn branch_from(
-    nodes: &[i32],
-    n: usize,
-    sx: u32,
-    sy: u32,
-    x: &mut [i32],
-    y: &mut [i32],
-    letters: &mut [u8],
-    count: usize,
-    rows: &mut [u32],
-    m: usize,
-    joins: &mut [u32],
-    j: usize,
-    cells: &mut [u64],
-    tree: &mut [u64],
-    list: &mut [u32],
-) -> Made
-    requires { ⌜ Searching n (now nodes) (now cells) (now tree) (now list) ⌝ }
-    requires { ⌜ Page (length (now x)) (length (now y)) (length (now letters)) (length (now rows)) ⌝ }
-    requires { ⌜ (count ≤ 512) × (0 < m) × (m ≤ 4096) × (j < 256) × (768 ≤ length (now joins)) ⌝ }
-    ensures { λ r. ⌜ branchedOut (r .number) x y letters (r .n) rows (r .m) joins (r .j) ≡ branchFrom (graphIn n nodes) sx sy (branchedIn 0 x y letters count rows m joins j) ⌝ }
-{
-    let t = branch(
-        nodes,
-        n,
-        sx,
-        sy,
-        x,
-        y,
-        letters,
-        count,
-        rows,
-        m,
-        joins,
-        j,
-        cells,
-        tree,
-        list,
-    );
-    with_junction(t, j)
-}
-
 // The endpoint i of a net of which that is made: it has no branch if it is one of the root pair a and b or a wire was refused.
 pub fn branch_at(
     nodes: &[i32],
@@ -459,7 +336,7 @@ pub fn branch_at(
     if (i == a) | (i == b) {
         return made;
     }
-    branch_from(
+    let t = branch(
         nodes,
         n,
         px[i],
@@ -475,7 +352,8 @@ pub fn branch_at(
         cells,
         tree,
         list,
-    )
+    );
+    with_junction(t, made.j)
 }
 
 // The root wire from the endpoint a to the endpoint b, the first of its net.
@@ -500,20 +378,28 @@ pub fn root_at(
     requires { ⌜ (a < length (now px)) × (b < length (now px)) × (length (now px) ≤ 256) × (length (now py) ≡ length (now px)) × (count ≤ 512) ⌝ }
     ensures { λ r. ⌜ tried (r .number) (wiresOut x y letters (r .n) rows (r .m)) ≡ rootWire (graphIn n nodes) (old px) (old py) a b (wiresIn x y letters count rows 0) ⌝ }
 {
-    root_wire(
+    let sx = px[a];
+    let sy = py[a];
+    let tx = px[b];
+    let ty = py[b];
+    let ahead = along(nodes, n, sx, sy);
+    let at = root_line(nodes, n, sx, sy, tx, ty, cells, tree, list);
+    routing::route_wire(
         nodes,
         n,
-        px[a],
-        py[a],
-        px[b],
-        py[b],
+        &list[at..],
+        sx,
+        sy,
+        tx,
+        ty,
+        ahead,
+        true,
+        Junction::None,
         x,
         y,
         letters,
         count,
         rows,
-        cells,
-        tree,
-        list,
+        0,
     )
 }
