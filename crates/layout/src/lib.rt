@@ -172,7 +172,7 @@ fn lay_each(
     laid
 }
 
-// The same, with the scratch made here: once a page, since no net leaves anything in it that another reads.
+// The same, with the scratch made here: once a page, since no net leaves anything in it that another reads, and not for a page without nets.
 fn lay_nets(
     nodes: &[i32],
     n: usize,
@@ -192,6 +192,9 @@ fn lay_nets(
     ensures { λ r. ⌜ (pageOut nets x y letters (r .n) joins (r .j)) ≡ netsTo (graphIn n nodes) (old ids) (old ends) ne nn (pageIn nets x y letters 0 joins 0) ⌝ }
     ensures { λ r. ⌜ Fit (r .n) (r .j) ⌝ }
 {
+    if nn == 0 {
+        return Counts { n: 0, j: 0 };
+    }
     let mut rows: [u32; END_WORDS] = [0; END_WORDS];
     let mut list: [u32; nodes::NODES] = [0; nodes::NODES];
     if n <= path_finding::SMALL {
