@@ -112,7 +112,7 @@ extern "C" {
 #define CLUE_DESK_KIND_NET 2
 #define CLUE_DESK_KIND_END 3
 
-/* Bytes of stack that suffice for a call; measured, not proved: layout takes 519,832 of a thread's, search 378,360, the other calls
+/* Bytes of stack that suffice for a call; measured, not proved: layout takes 572,112 of a thread's, search 502,400, the other calls
  * 15,448. */
 #define CLUE_DESK_STACK 655360
 
