@@ -1,6 +1,7 @@
 // The explicit anchors of a page's records.
+#![tactic(auto)]
+
 ghost use Rattle.std.specs.Prelude.{◌≡◌, true, false, ◌+◌, ◌*◌, ◌<◌, ◌≤◌, length, get_or};
-ghost use Rattle.fixed.specs.Seen.{old, new};
 ghost use Rattle.fixed.specs.Constants.{COORDS, ANCHOR_WORDS};
 ghost use Rattle.anchors.specs.Records.{ROW, records, RowsHeld, records_in};
 ghost use Rattle.anchors.specs.Explicit.{push, takes, ways, ignored, with_row, with_key, with_keys, explicit, columns, Keyed};
@@ -19,7 +20,7 @@ const ALL: u32 = 15;
 pub fn push(out: &mut [i32], n: usize, x: u32, y: u32, d: u32, b: u32)
     requires in_bounds { ANCHOR_WORDS ≤ length out.old }
     requires n_bound { n < COORDS }
-    ensures { columns (n + 1) (new out) ≡ push (columns n (old out)) x y d b }
+    ensures { columns (n + 1) out.new ≡ push (columns n out.old) x y d b }
 {
     fixed::put(out, n, x);
     fixed::put(out, fixed::COORDS + n, y);
@@ -30,7 +31,7 @@ pub fn push(out: &mut [i32], n: usize, x: u32, y: u32, d: u32, b: u32)
 // Whether the row k is an anchor of `key`.
 fn takes(rows: &[u32], ends: bool, key: u32, k: usize) -> bool
     requires { k * ROW + ROW ≤ length rows.now }
-    ensures { result ≡ takes ends (old rows) key k }
+    ensures { result ≡ takes ends rows.now key k }
 {
     if rows[k * ROW] == key {
         if ends {
@@ -75,7 +76,7 @@ fn with_row(
     requires in_bounds { ANCHOR_WORDS ≤ length out.old }
     requires n_bound { (n ≤ COORDS) × (k * ROW + ROW ≤ length rows.now) }
     requires out_len_bound { length (with_row ends rows.now key b k (columns n out.old)).xs ≤ COORDS }
-    ensures out_value { columns result (new out) ≡ with_row ends (old rows) key b k (columns n (old out)) }
+    ensures out_value { columns result out.new ≡ with_row ends rows.now key b k (columns n out.old) }
     ensures upper_bound { result ≤ COORDS }
 {
     if takes(rows, ends, key, k) {
@@ -101,7 +102,7 @@ fn with_key(
     requires in_bounds { ANCHOR_WORDS ≤ length out.old }
     requires n_bound { (n ≤ COORDS) × (m * ROW ≤ length rows.now) }
     requires out_len_bound { length (with_key ends rows.now key b m (columns n out.old)).xs ≤ COORDS }
-    ensures out_value { columns result (new out) ≡ with_key ends (old rows) key b m (columns n (old out)) }
+    ensures out_value { columns result out.new ≡ with_key ends rows.now key b m (columns n out.old) }
     ensures upper_bound { result ≤ COORDS }
 {
     let mut count = n;
@@ -128,7 +129,7 @@ fn with_keys(
     requires n_bound { (n ≤ COORDS) × (m * ROW ≤ length rows.now) × (l < 4294967296) }
     requires keyed { Keyed width l keys.now }
     requires out_len_bound { length (with_keys ends rows.now m keys.now width l (columns n out.old)).xs ≤ COORDS }
-    ensures out_value { columns result (new out) ≡ with_keys ends (old rows) m (old keys) width l (columns n (old out)) }
+    ensures out_value { columns result out.new ≡ with_keys ends rows.now m keys.now width l (columns n out.old) }
     ensures upper_bound { result ≤ COORDS }
 {
     let mut count = n;
@@ -157,7 +158,7 @@ pub fn explicit(
     requires in_bounds { ANCHOR_WORDS ≤ length out.old }
     requires rows_held { RowsHeld (records boxes.now nb ports.now np nets.now nn ends.now ne) }
     requires ne_len_bound { length (explicit (records boxes.now nb ports.now np nets.now nn ends.now ne)).xs ≤ COORDS }
-    ensures out_value { columns result (new out) ≡ explicit (records_in boxes nb ports np nets nn ends ne) }
+    ensures out_value { columns result out.new ≡ explicit (records_in boxes.now nb ports.now np nets.now nn ends.now ne) }
     ensures upper_bound { result ≤ COORDS }
 {
     let n = with_keys(out, 0, ports, np, boxes, BOX, nb, false);

@@ -1,8 +1,9 @@
+#![tactic(auto)]
+
 use queue::Popped;
 
 // The A* core: one search on the first n nodes of a graph, which is lent as one list.
 ghost use Rattle.std.specs.Prelude.{◌≡◌, cond, ℕ, ◌+◌, ◌-◌, ◌*◌, ◌≤◌, ◌<◌, length, get_or, set, replicate, take, drop, eqb, reverse};
-ghost use Rattle.fixed.specs.Seen.{old, new};
 ghost use Rattle.columns.specs.Columns.{Only};
 ghost use Rattle.queue.specs.Queue.{UNSET, NODES};
 ghost use Rattle.queue.specs.Columns.{WIDTH, sums};
@@ -33,7 +34,7 @@ const FAR: u64 = 8589934592;
 
 pub const DIRECTIONS: usize = 4;
 
-#[derive(Drop)]
+#[derive(Clone, Copy)]
 pub enum Found {
     Node(usize),
     Nothing,
@@ -48,7 +49,7 @@ fn wide(x: u32) -> usize
 // The distance of the nodes a and b.
 fn distance(nodes: &[i32], n: usize, a: usize, b: usize) -> u64
     requires { (a < n) × (b < n) × (n ≤ NODES) × (GRAPH_WORDS ≤ length nodes.now) }
-    ensures { (result ≡ distanceS (graph_in n nodes).xs (graph_in n nodes).ys a b) × (result < FAR) }
+    ensures { (result ≡ distanceS (graph_in n nodes.now).xs (graph_in n nodes.now).ys a b) × (result < FAR) }
 {
     fixed::manhattan(
         nodes::x_of(nodes, a),
@@ -61,7 +62,7 @@ fn distance(nodes: &[i32], n: usize, a: usize, b: usize) -> u64
 // Where the link of the node v in the direction d leads, or NONE.
 pub fn onward(nodes: &[i32], n: usize, v: usize, d: usize) -> u32
     requires { (v < n) × (d < DIRECTIONS) × (n ≤ NODES) × (GRAPH_WORDS ≤ length nodes.now) }
-    ensures { result ≡ get_or (graph_in n nodes).links (v * 4 + d) 0 }
+    ensures { result ≡ get_or (graph_in n nodes.now).links (v * 4 + d) 0 }
 {
     nodes::link_word(nodes, v, d)
 }
@@ -69,7 +70,7 @@ pub fn onward(nodes: &[i32], n: usize, v: usize, d: usize) -> u32
 // The least distance from the node v to one of the ends.
 fn estimate(nodes: &[i32], n: usize, ends: &[u32], v: usize) -> u64
     requires { (v < n) × (n ≤ NODES) × (GRAPH_WORDS ≤ length nodes.now) × Below n ends.now }
-    ensures { (result ≡ nearest (graph_in n nodes).xs (graph_in n nodes).ys (old ends) v) × (result ≤ FAR) }
+    ensures { (result ≡ nearest (graph_in n nodes.now).xs (graph_in n nodes.now).ys ends.now v) × (result ≤ FAR) }
 {
     let mut best: u64 = FAR;
     let mut i: usize = 0;
@@ -87,7 +88,7 @@ fn estimate(nodes: &[i32], n: usize, ends: &[u32], v: usize) -> u64
 // The predecessor of the node v, or NOWHERE.
 pub fn pred_of(cells: &[u64], n: usize, v: usize) -> usize
     requires { (v < n) × (n * WIDTH ≤ length cells.now) }
-    ensures { result ≡ get_or (preds n (old cells)) v 0 }
+    ensures { result ≡ get_or (preds n cells.now) v 0 }
 {
     columns::get(cells, n, PRED, v) as usize
 }
@@ -96,7 +97,7 @@ pub fn pred_of(cells: &[u64], n: usize, v: usize) -> usize
 fn estimate_once(nodes: &[i32], n: usize, ends: &[u32], cells: &mut [u64], v: usize) -> u64
     requires v_lt_n { (v < n) × (n ≤ NODES) × (GRAPH_WORDS ≤ length nodes.now) × Below n ends.now × (n * WIDTH ≤ length cells.old) }
     requires estimated { Estimated n (take n (whole nodes.now).xs) (take n (whole nodes.now).ys) ends.now (estimates n cells.old) }
-    ensures { (result ≡ nearest (graph_in n nodes).xs (graph_in n nodes).ys (old ends) v) × (result ≤ FAR) × Estimated n (graph_in n nodes).xs (graph_in n nodes).ys (old ends) (estimates n (new cells)) × Only n ESTIMATE (old cells) (new cells) }
+    ensures { (result ≡ nearest (graph_in n nodes.now).xs (graph_in n nodes.now).ys ends.now v) × (result ≤ FAR) × Estimated n (graph_in n nodes.now).xs (graph_in n nodes.now).ys ends.now (estimates n cells.new) × Only n ESTIMATE cells.old cells.new }
 {
     let known = columns::get(cells, n, ESTIMATE, v);
     if known != UNSET {
@@ -110,7 +111,7 @@ fn estimate_once(nodes: &[i32], n: usize, ends: &[u32], cells: &mut [u64], v: us
 // The direction in which w is the neighbour of the node v, or DIRECTIONS.
 pub fn dir_to(nodes: &[i32], n: usize, v: usize, w: u32) -> usize
     requires { (v < n) × (n ≤ NODES) × (GRAPH_WORDS ≤ length nodes.now) }
-    ensures { result ≡ toward (graph_in n nodes).links v w }
+    ensures { result ≡ toward (graph_in n nodes.now).links v w }
 {
     if onward(nodes, n, v, 0) == w {
         return 0;
@@ -139,7 +140,7 @@ fn opposite(d: usize) -> usize
 fn length_in_direction(nodes: &[i32], n: usize, cells: &[u64], from: usize, dir: usize) -> u64
     requires ready { Ready (graph n nodes.now) × (GRAPH_WORDS ≤ length nodes.now) }
     requires n_in_bounds { (n * WIDTH ≤ length cells.now) × (from < n) × (dir < DIRECTIONS) }
-    ensures { result ≡ run_length MOVES (graph_in n nodes) (preds n (old cells)) from dir }
+    ensures { result ≡ run_length MOVES (graph_in n nodes.now) (preds n cells.now) from dir }
 {
     let mut len: u64 = 0;
     let mut node = from;
@@ -161,7 +162,7 @@ fn length_in_direction(nodes: &[i32], n: usize, cells: &[u64], from: usize, dir:
 // The direction of arrival at the node v, or DIRECTIONS.
 fn arrival(nodes: &[i32], n: usize, cells: &[u64], v: usize) -> usize
     requires { (n ≤ NODES) × (GRAPH_WORDS ≤ length nodes.now) × (n * WIDTH ≤ length cells.now) × (v < n) × ((get_or (preds n cells.now) v 0 ≡ none → ⊥) → get_or (preds n cells.now) v 0 < n) }
-    ensures { result ≡ arrives (graph_in n nodes).links (preds n (old cells)) v }
+    ensures { result ≡ arrives (graph_in n nodes.now).links (preds n cells.now) v }
 {
     let p = pred_of(cells, n, v);
     if p == NOWHERE {
@@ -175,7 +176,7 @@ fn arrival(nodes: &[i32], n: usize, cells: &[u64], v: usize) -> usize
 fn penalty_at(nodes: &[i32], n: usize, cells: &[u64], v: usize, arrived: usize) -> u64
     requires ready { Ready (graph n nodes.now) × (GRAPH_WORDS ≤ length nodes.now) }
     requires n_in_bounds { (n * WIDTH ≤ length cells.now) × (v < n) × (arrived ≡ arrival (graph n nodes.now) (preds n cells.now) v) }
-    ensures { result ≡ penaltyS (graph_in n nodes) (preds n (old cells)) v }
+    ensures { result ≡ penaltyS (graph_in n nodes.now) (preds n cells.now) v }
 {
     if arrived < DIRECTIONS {
         let back = opposite(arrived);
@@ -197,7 +198,7 @@ fn move_cost(
     pen: u64,
 ) -> u64
     requires { (u < n) × (v < n) × (n ≤ NODES) × (GRAPH_WORDS ≤ length nodes.now) × (score ≤ HIGH) × (pen ≤ HIGH) }
-    ensures { (result ≡ score + distanceS (graph_in n nodes).xs (graph_in n nodes).ys u v + cond (eqb dir arrived) 0 pen) × (result ≤ HIGH + HIGH + FAR) }
+    ensures { (result ≡ score + distanceS (graph_in n nodes.now).xs (graph_in n nodes.now).ys u v + cond (eqb dir arrived) 0 pen) × (result ≤ HIGH + HIGH + FAR) }
 {
     let there = score + distance(nodes, n, u, v);
     if dir == arrived {
@@ -219,8 +220,8 @@ fn improve(
 )
     requires u_lt_n { (u < n) × (v < n) × (n ≤ NODES) × (GRAPH_WORDS ≤ length nodes.now) × Below n ends.now × (score ≤ HIGH + HIGH + FAR) }
     requires held { Held n (take n (whole nodes.now).xs) (take n (whole nodes.now).ys) ends.now cells.old tree.old }
-    ensures cells_value { state n (new cells) ≡ replaced (graph_in n nodes).xs (graph_in n nodes).ys (old ends) (state n (old cells)) v u score }
-    ensures held_2 { Held n (graph_in n nodes).xs (graph_in n nodes).ys (old ends) (new cells) (new tree) }
+    ensures cells_value { state n cells.new ≡ replaced (graph_in n nodes.now).xs (graph_in n nodes.now).ys ends.now (state n cells.old) v u score }
+    ensures held_2 { Held n (graph_in n nodes.now).xs (graph_in n nodes.now).ys ends.now cells.new tree.new }
 {
     let e = estimate_once(nodes, n, ends, cells, v);
     columns::put(cells, n, SCORE, v, score);
@@ -231,7 +232,7 @@ fn improve(
 // Where a move from the node u in the direction dir leads, or NONE: going back is not tried.
 fn target(nodes: &[i32], n: usize, u: usize, dir: usize, arrived: usize) -> u32
     requires { (u < n) × (dir < DIRECTIONS) × (arrived ≤ DIRECTIONS) × (n ≤ NODES) × (GRAPH_WORDS ≤ length nodes.now) }
-    ensures { result ≡ cond (eqb dir (opposite arrived)) none (get_or (graph_in n nodes).links (u * 4 + dir) 0) }
+    ensures { result ≡ cond (eqb dir (opposite arrived)) none (get_or (graph_in n nodes.now).links (u * 4 + dir) 0) }
 {
     if dir == opposite(arrived) {
         return NONE;
@@ -254,8 +255,8 @@ fn relax(
     requires ready { Ready (graph n nodes.now) × (GRAPH_WORDS ≤ length nodes.now) }
     requires u_lt_n { (u < n) × (dir < DIRECTIONS) × (arrived ≤ DIRECTIONS) × (pen ≤ HIGH) × (get_or (scores n cells.old) u 0 ≤ HIGH) × Below n ends.now }
     requires held { Held n (take n (whole nodes.now).xs) (take n (whole nodes.now).ys) ends.now cells.old tree.old }
-    ensures cells_value { state n (new cells) ≡ relaxS (graph_in n nodes) (old ends) (state n (old cells)) u dir arrived pen }
-    ensures held_2 { Held n (graph_in n nodes).xs (graph_in n nodes).ys (old ends) (new cells) (new tree) }
+    ensures cells_value { state n cells.new ≡ relaxS (graph_in n nodes.now) ends.now (state n cells.old) u dir arrived pen }
+    ensures held_2 { Held n (graph_in n nodes.now).xs (graph_in n nodes.now).ys ends.now cells.new tree.new }
 {
     let w = target(nodes, n, u, dir, arrived);
     if w == NONE {
@@ -276,8 +277,8 @@ fn expand(nodes: &[i32], n: usize, ends: &[u32], cells: &mut [u64], tree: &mut [
     requires ready { Ready (graph n nodes.now) × (GRAPH_WORDS ≤ length nodes.now) }
     requires u_lt_n { (u < n) × (get_or (scores n cells.old) u 0 ≤ HIGH) × ((get_or (preds n cells.old) u 0 ≡ none → ⊥) → get_or (preds n cells.old) u 0 < n) × Below n ends.now }
     requires held { Held n (take n (whole nodes.now).xs) (take n (whole nodes.now).ys) ends.now cells.old tree.old }
-    ensures cells_value { state n (new cells) ≡ expandS (graph_in n nodes) (old ends) (state n (old cells)) u }
-    ensures held_2 { Held n (graph_in n nodes).xs (graph_in n nodes).ys (old ends) (new cells) (new tree) }
+    ensures cells_value { state n cells.new ≡ expandS (graph_in n nodes.now) ends.now (state n cells.old) u }
+    ensures held_2 { Held n (graph_in n nodes.now).xs (graph_in n nodes.now).ys ends.now cells.new tree.new }
 {
     let arrived = arrival(nodes, n, cells, u);
     let pen = penalty_at(nodes, n, cells, u, arrived);
@@ -291,8 +292,8 @@ fn expand(nodes: &[i32], n: usize, ends: &[u32], cells: &mut [u64], tree: &mut [
 // Before the first turn: in blank cells only the start gets a score and a queue entry, both 0.
 fn begin(cells: &mut [u64], tree: &mut [u64], n: usize, start: usize)
     requires { (start < n) × (n * WIDTH ≤ length cells.old) × (scores n cells.old ≡ replicate n UNSET) × (preds n cells.old ≡ replicate n none) × (sums n cells.old ≡ replicate n UNSET) × Indexed (sums n cells.old) tree.old }
-    ensures cells_value { state n (new cells) ≡ beginS n start }
-    ensures indexed { Indexed (sums n (new cells)) (new tree) × (estimates n (new cells) ≡ estimates n (old cells)) × (marked n (new cells) ≡ marked n (old cells)) }
+    ensures cells_value { state n cells.new ≡ beginS n start }
+    ensures indexed { Indexed (sums n cells.new) tree.new × (estimates n cells.new ≡ estimates n cells.old) × (marked n cells.new ≡ marked n cells.old) }
 {
     columns::put(cells, n, SCORE, start, 0);
     queue::put(cells, tree, n, start, 0);
@@ -310,7 +311,7 @@ pub fn find_path_impl(
     requires ready { Ready (graph n nodes.now) × (GRAPH_WORDS ≤ length nodes.now) }
     requires cells_value { (scores n cells.old ≡ replicate n UNSET) × (preds n cells.old ≡ replicate n none) × (sums n cells.old ≡ replicate n UNSET) × (start < n) × Below n ends.now }
     requires held { Held n (take n (whole nodes.now).xs) (take n (whole nodes.now).ys) ends.now cells.old tree.old }
-    ensures { (result ≡ found_of (search (graph_in n nodes) (old ends) start).at) × (state n (new cells) ≡ (search (graph_in n nodes) (old ends) start).end) }
+    ensures { (result ≡ found_of (search (graph_in n nodes.now) ends.now start).at) × (state n cells.new ≡ (search (graph_in n nodes.now) ends.now start).end) }
 {
     begin(cells, tree, n, start);
     let mut found = Found::Nothing;

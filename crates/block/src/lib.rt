@@ -1,4 +1,6 @@
 // A block of words: the boxes, ports, nets and ends of a desk. Tests of its records, and records put in and taken out.
+#![tactic(auto)]
+
 ghost use Rattle.std.specs.Prelude.{◌≡◌, true, ◌&&◌, [], ◌+◌, ◌*◌, ◌≤◌, ◌<◌, length, get_or, take, drop};
 ghost use Rattle.rows.specs.Rows.{is_in, ids, key, keys, count, scan, place, records as records-of};
 ghost use Rattle.book.specs.declared.Kind.{Kind};

@@ -1,4 +1,6 @@
 // What the clue desk keeps of 01: the kinds of records and the limits. The definitions and their laws are in specs/ and proofs/; there is no function here.
+#![tactic(auto)]
+
 pub const IDS: u32 = 4294967295;
 
 pub const COPIES: u32 = 32;
@@ -19,7 +21,7 @@ pub const NETS: usize = 64;
 
 pub const ENDS: usize = 256;
 
-#[derive(Drop)]
+#[derive(Clone, Copy)]
 pub enum Kind {
     Box,
     Port,

@@ -1,5 +1,7 @@
 // Replays a fixed list of calls on a desk, given on standard input, and compares each number, each refused line and the surviving records. Between
 // calls the list may set words of the desk.
+#![tactic(auto)]
+
 ghost use Rattle.std.specs.Prelude.{◌+◌, ◌*◌, ◌<◌, ◌≤◌, ◌≡◌, length};
 ghost use Rattle.desk.specs.Sizes.{DESK};
 
@@ -7,14 +9,14 @@ ghost use Rattle.desk.specs.Sizes.{DESK};
 const NONE: u32 = 99;
 
 // The numbers of a line behind its word, as words, and the place behind the first of them that was read.
-#[derive(Drop)]
+#[derive(Clone, Copy)]
 struct Words {
     words: [u64; 6],
     next: usize,
 }
 
 // What a line came to: whether it was as it should be, and the next line's place.
-#[derive(Drop)]
+#[derive(Clone, Copy)]
 struct Done {
     ok: bool,
     next: usize,
@@ -253,7 +255,7 @@ fn set_word(desk: &mut [u32], f: [u64; 6]) -> bool {
 }
 
 // What was counted: calls and lists compared, and those that were not as they should be.
-#[derive(Drop)]
+#[derive(Clone, Copy)]
 struct Tally {
     calls: u64,
     wrong: u64,

@@ -1,12 +1,13 @@
 // Columns of n words each in one lent list, one behind the other.
+#![tactic(auto)]
+
 ghost use Rattle.std.specs.Prelude.{◌≡◌, ◌+◌, ◌*◌, ◌≤◌, ◌<◌, length, get_or, set, replicate};
-ghost use Rattle.fixed.specs.Seen.{old, new};
 ghost use Rattle.columns.specs.Columns.{column, Only};
 
 // The entry v of the w-th column.
 pub fn get(list: &[u64], n: usize, w: usize, v: usize) -> u64
     requires { (v < n) × (w * n + n ≤ length list.now) }
-    ensures { result ≡ get_or (column w n (old list)) v 0 }
+    ensures { result ≡ get_or (column w n list.now) v 0 }
 {
     list[w * n + v]
 }
@@ -14,7 +15,7 @@ pub fn get(list: &[u64], n: usize, w: usize, v: usize) -> u64
 // Sets the entry v of the w-th column.
 pub fn put(list: &mut [u64], n: usize, w: usize, v: usize, x: u64)
     requires { (v < n) × (w * n + n ≤ length list.old) }
-    ensures { (column w n (new list) ≡ set (column w n (old list)) v x) × Only n w (old list) (new list) }
+    ensures { (column w n list.new ≡ set (column w n list.old) v x) × Only n w list.old list.new }
 {
     list[w * n + v] = x;
 }
@@ -22,7 +23,7 @@ pub fn put(list: &mut [u64], n: usize, w: usize, v: usize, x: u64)
 // Fills the w-th column.
 pub fn fill(list: &mut [u64], n: usize, w: usize, x: u64)
     requires { w * n + n ≤ length list.old }
-    ensures { (column w n (new list) ≡ replicate n x) × Only n w (old list) (new list) }
+    ensures { (column w n list.new ≡ replicate n x) × Only n w list.old list.new }
 {
     let mut v: usize = 0;
     while v < n {

@@ -1,6 +1,7 @@
 // `connect_net`: one net of a page, on a built graph.
+#![tactic(auto)]
+
 ghost use Rattle.std.specs.Prelude.{◌≡◌, cond, eqb, ltb, ◌+◌, ◌*◌, ◌<◌, ◌≤◌, length};
-ghost use Rattle.fixed.specs.Seen.{old, new};
 ghost use Rattle.nodes.specs.Graph.{NODES};
 ghost use Rattle.nodes.specs.Columns.{GRAPH_WORDS, graph_in};
 ghost use Rattle.path_finding.specs.Places.{known_to};
@@ -34,7 +35,7 @@ fn turn_at(
     requires page { Page (length x.old) (length y.old) (length letters.old) (length rows.old) }
     requires a_in_bounds { (a < length px.now) × (b < length px.now) × (length px.now ≤ 256) × (length py.now ≡ length px.now) × (768 ≤ length joins.old) }
     requires k_in_bounds { (k < length px.now + 1) × (k ≡ 0 → (made.n ≤ 512) × (made.m ≡ 0)) × (0 < k → made.number ≡ 0 → Bounds made.n made.m made.j) }
-    ensures { branched_out result.number x y letters result.n rows result.m joins result.j ≡ turn_at (graph_in n nodes) (old px) (old py) a b k (branched_in made.number x y letters made.n rows made.m joins made.j) }
+    ensures { branched_out result.number x.new y.new letters.new result.n rows.new result.m joins.new result.j ≡ turn_at (graph_in n nodes.now) px.now py.now a b k (branched_in made.number x.old y.old letters.old made.n rows.old made.m joins.old made.j) }
 {
     if k == 0 {
         let t = net::root_at(
@@ -89,7 +90,7 @@ fn turns(
     requires searching { Searching n nodes.now cells.old tree.old list.old }
     requires page { Page (length x.old) (length y.old) (length letters.old) (length rows.old) }
     requires a_in_bounds { (a < length px.now) × (b < length px.now) × (length px.now ≤ 256) × (length py.now ≡ length px.now) × (count ≤ 512) × (2 * j ≤ count) × (768 ≤ length joins.old) }
-    ensures { branched_out result.number x y letters result.n rows result.m joins result.j ≡ turns_to (graph_in n nodes) (old px) (old py) a b (length (old px) + 1) (branched_in 0 x y letters count rows 0 joins j) }
+    ensures { branched_out result.number x.new y.new letters.new result.n rows.new result.m joins.new result.j ≡ turns_to (graph_in n nodes.now) px.now py.now a b (length px.now + 1) (branched_in 0 x.old y.old letters.old count rows.old 0 joins.old j) }
 {
     let mut made = Made {
         number: 0,
@@ -110,7 +111,7 @@ fn turns(
 // 12 if the net has under two endpoints, 13 if one of them is no node, else 0.
 fn prior(nodes: &[i32], n: usize, px: &[u32], py: &[u32]) -> u32
     requires { (n ≤ NODES) × (GRAPH_WORDS ≤ length nodes.now) × (length py.now ≡ length px.now) }
-    ensures { result ≡ cond (ltb (length (old px)) 2) 12 (cond (known_to (graph_in n nodes) (old px) (old py) (length (old px))) 0 13) }
+    ensures { result ≡ cond (ltb (length px.now) 2) 12 (cond (known_to (graph_in n nodes.now) px.now py.now (length px.now)) 0 13) }
 {
     if px.len() < 2 {
         return 12;
@@ -142,7 +143,7 @@ pub fn connect_net(
     requires px_len_bound { (length px.now ≤ 256) × (length py.now ≡ length px.now) }
     requires in_bounds { (512 ≤ length x.old) × (512 ≤ length y.old) × (512 ≤ length letters.old) × (768 ≤ length joins.old) × (count ≤ 512) × (2 * j ≤ count) }
     requires rows_len { length rows.old ≡ END_WORDS }
-    ensures { net result.number (vertices_out x y letters result.n) (new joins) result.j ≡ connect_net (graph_in n nodes) (old px) (old py) (vertices_in x y letters count) (old joins) j }
+    ensures { net result.number (vertices_out x.new y.new letters.new result.n) joins.new result.j ≡ connect_net (graph_in n nodes.now) px.now py.now (vertices_in x.old y.old letters.old count) joins.old j }
 {
     let number = prior(nodes, n, px, py);
     if number != 0 {

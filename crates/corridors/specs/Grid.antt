@@ -1,6 +1,5 @@
 -- 01, 'Corridors': which cells padded boxes fill, and the empty runs of a row, left to right. Along is the axis on which runs go, across the other.
 use Rattle.std.specs.Prelude.{Bool, false, cond, ◌&&◌, ◌||◌, List, [], ◌∷◌, ◌++◌, ℕ, zero, suc, ◌+◌, ◌-◌, ◌*◌, ◌/◌, ◌%◌, eqb, ltb, leb, ℤ, length, get_or, set}
-use Rattle.fixed.specs.Seen.{Lent, old}
 use Rattle.fixed.specs.Constants.{BOXES}
 use Rattle.fixed.specs.Up.{ups}
 use Rattle.fixed.specs.Columns.{column}
@@ -72,5 +71,5 @@ all_runs b xs ys i zero = []
 all_runs b xs ys i (suc m) = row_runs b xs ys i ∷ all_runs b xs ys (suc i) m
 
 -- what a clause sees of lent edges
-abbrev pub boxes_in : ℕ → Lent (List ℤ) → Lent (List ℤ) → Lent (List ℤ) → Lent (List ℤ) → Boxes
-boxes_in n a b c d = boxes n (old a) (old b) (old c) (old d)
+abbrev pub boxes_in : ℕ → List ℤ → List ℤ → List ℤ → List ℤ → Boxes
+boxes_in n a b c d = boxes n a b c d

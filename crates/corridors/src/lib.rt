@@ -1,6 +1,7 @@
 // Corridors between padded boxes: the implicit anchors.
+#![tactic(auto)]
+
 ghost use Rattle.std.specs.Prelude.{◌≡◌, ◌+◌, ◌-◌, ◌*◌, ◌/◌, ◌%◌, ◌<◌, ◌≤◌, ltb, length, get_or, set, take, drop, false, cond};
-ghost use Rattle.fixed.specs.Seen.{old, new};
 ghost use Rattle.fixed.specs.Up.{ups};
 ghost use Rattle.fixed.specs.Steps.{middle};
 ghost use Rattle.fixed.specs.Constants.{BOXES, COORDS, PADDED_WORDS, ANCHOR_WORDS};
@@ -40,7 +41,7 @@ const Y: u32 = 12;
 // Marks those of m cells that begin from f to before t.
 fn mark_cells(marks: &mut [bool], xs: &[i32], m: usize, f: u32, t: u32)
     requires { (m ≤ length marks.old) × (m ≤ length xs.now) }
-    ensures { MarkedSpan m f t (ups (old xs)) (old marks) (new marks) }
+    ensures { MarkedSpan m f t (ups xs.now) marks.old marks.new }
 {
     let mut k = 0;
     while k < m {
@@ -64,7 +65,7 @@ fn mark_box(
     j: usize,
 )
     requires { Held n from.now to.now low.now high.now × (j < n) × (m ≤ length marks.old) × (m ≤ length xs.now) }
-    ensures { MarkedBox m (boxes_in n from to low high) y j (ups (old xs)) (old marks) (new marks) }
+    ensures { MarkedBox m (boxes_in n from.now to.now low.now high.now) y j (ups xs.now) marks.old marks.new }
 {
     if y < fixed::at(low, j) {
         return;
@@ -90,7 +91,7 @@ fn mark_row(
     y: u32,
 )
     requires { Held n from.now to.now low.now high.now × (m ≤ length marks.old) × (m ≤ length xs.now) × Clear m marks.old }
-    ensures { MarkedRow m (boxes_in n from to low high) y n (ups (old xs)) (new marks) }
+    ensures { MarkedRow m (boxes_in n from.now to.now low.now high.now) y n (ups xs.now) marks.new }
 {
     let mut j = 0;
     while j < n {
@@ -108,7 +109,7 @@ fn wide(x: u32) -> usize
 // How many runs the row i has.
 fn count(rows: &[u32], i: usize) -> usize
     requires { (i < CELLS) × (TABLE ≤ length rows.now) }
-    ensures value { result ≡ few (get_or (old rows) (i * WIDTH) 0) }
+    ensures value { result ≡ few (get_or rows.now (i * WIDTH) 0) }
     ensures upper_bound { result ≤ RUNS }
 {
     let c = wide(rows[i * WIDTH]);
@@ -121,7 +122,7 @@ fn count(rows: &[u32], i: usize) -> usize
 // Where the run v stands among the c of the row i, or c.
 fn find(rows: &[u32], i: usize, c: usize, v: u32) -> usize
     requires { (i < CELLS) × (c ≤ RUNS) × (TABLE ≤ length rows.now) }
-    ensures { result ≡ index (take c (drop (i * WIDTH + 1) (old rows))) v }
+    ensures { result ≡ index (take c (drop (i * WIDTH + 1) rows.now)) v }
 {
     let mut j = 0;
     while j < c {
@@ -136,8 +137,8 @@ fn find(rows: &[u32], i: usize, c: usize, v: u32) -> usize
 // Takes the run v out of the row i, the last run filling the hole. Whether it was there.
 fn remove(rows: &mut [u32], i: usize, v: u32) -> bool
     requires { (i < CELLS) × (TABLE ≤ length rows.old) }
-    ensures value { result ≡ has (row (old rows) i) v }
-    ensures changed { Changed (old rows) (new rows) i (removed (row (old rows) i) v) }
+    ensures value { result ≡ has (row rows.old i) v }
+    ensures changed { Changed rows.old rows.new i (removed (row rows.old i) v) }
 {
     let c = count(rows, i);
     let f = find(rows, i, c, v);
@@ -153,7 +154,7 @@ fn remove(rows: &mut [u32], i: usize, v: u32) -> bool
 // Takes the run v out of each row from `from` on until a row lacks it: that row, or n.
 fn take_out(rows: &mut [u32], v: u32, from: usize, n: usize) -> usize
     requires { (from ≤ n) × (n ≤ CELLS) × (TABLE ≤ length rows.old) }
-    ensures { taken result (table (new rows) 0 n) ≡ take_out v from (n - from) (table (old rows) 0 n) }
+    ensures { taken result (table rows.new 0 n) ≡ take_out v from (n - from) (table rows.old 0 n) }
 {
     let mut k = from;
     while k < n {
@@ -168,7 +169,7 @@ fn take_out(rows: &mut [u32], v: u32, from: usize, n: usize) -> usize
 // Whether the last of the c runs of the row i ends at the cell k.
 fn ends_at(rows: &[u32], i: usize, c: usize, k: usize) -> bool
     requires { (i < CELLS) × (c ≤ RUNS) × (k < CELLS) × (TABLE ≤ length rows.now) }
-    ensures { result ≡ ends_at (take c (drop (i * WIDTH + 1) (old rows))) k }
+    ensures { result ≡ ends_at (take c (drop (i * WIDTH + 1) rows.now)) k }
 {
     if c == 0 {
         return false;
@@ -179,7 +180,7 @@ fn ends_at(rows: &[u32], i: usize, c: usize, k: usize) -> bool
 // The empty cell k lengthens the last run of the row i, or begins one.
 fn add_cell(rows: &mut [u32], i: usize, k: usize)
     requires { (i < CELLS) × (k < CELLS) × (few (get_or rows.old (i * WIDTH) 0) < RUNS) × (TABLE ≤ length rows.old) }
-    ensures { Changed (old rows) (new rows) i (add_cell (row (old rows) i) k) }
+    ensures { Changed rows.old rows.new i (add_cell (row rows.old i) k) }
 {
     let c = count(rows, i);
     if ends_at(rows, i, c, k) {
@@ -194,7 +195,7 @@ fn add_cell(rows: &mut [u32], i: usize, k: usize)
 // The cell k of the row i.
 fn cell(rows: &mut [u32], marks: &[bool], i: usize, k: usize)
     requires { (k < length marks.now) × (i < CELLS) × (k < CELLS) × (few (get_or rows.old (i * WIDTH) 0) < RUNS) × (TABLE ≤ length rows.old) }
-    ensures { Changed (old rows) (new rows) i (cond (get_or (old marks) k false) (row (old rows) i) (add_cell (row (old rows) i) k)) }
+    ensures { Changed rows.old rows.new i (cond (get_or marks.now k false) (row rows.old i) (add_cell (row rows.old i) k)) }
 {
     if marks[k] {
         return;
@@ -205,7 +206,7 @@ fn cell(rows: &mut [u32], marks: &[bool], i: usize, k: usize)
 // The empty runs of the m cells of the row i.
 fn list_runs(rows: &mut [u32], marks: &[bool], m: usize, i: usize)
     requires { (m ≤ length marks.now) × (i < CELLS) × (m ≤ CELLS) × (TABLE ≤ length rows.old) }
-    ensures { Changed (old rows) (new rows) i (listed (old marks) m) }
+    ensures { Changed rows.old rows.new i (listed marks.now m) }
 {
     rows[i * WIDTH] = 0;
     let mut k = 0;
@@ -229,7 +230,7 @@ fn empty_runs(
     i: usize,
 )
     requires { Held n from.now to.now low.now high.now × (m ≤ length xs.now) × (i < CELLS) × (m ≤ CELLS) × (TABLE ≤ length rows.old) }
-    ensures { Changed (old rows) (new rows) i (runs (boxes_in n from to low high) (ups (old xs)) y m) }
+    ensures { Changed rows.old rows.new i (runs (boxes_in n from.now to.now low.now high.now) (ups xs.now) y m) }
 {
     let mut marks = [false; CELLS];
     mark_row(&mut marks, from, to, low, high, n, xs, m, y);
@@ -250,7 +251,7 @@ fn all_runs(
     rows: &mut [u32],
 )
     requires { Held b from.now to.now low.now high.now × (m ≡ length xs.now - 1) × (n ≡ length ys.now - 1) × (m ≤ CELLS) × (n ≤ CELLS) × (TABLE ≤ length rows.old) }
-    ensures { table (new rows) 0 n ≡ all_runs (boxes_in b from to low high) (ups (old xs)) (ups (old ys)) 0 n }
+    ensures { table rows.new 0 n ≡ all_runs (boxes_in b from.now to.now low.now high.now) (ups xs.now) (ups ys.now) 0 n }
 {
     let mut i = 0;
     while i < n {
@@ -262,7 +263,7 @@ fn all_runs(
 
 // The steps of the coordinate i, or 0.
 fn coord(xs: &[i32], i: usize) -> u32
-    ensures { result ≡ coord_in xs i }
+    ensures { result ≡ coord_in xs.now i }
 {
     if i < xs.len() {
         return fixed::at(xs, i);
@@ -291,7 +292,7 @@ fn gaps(n: usize) -> usize
 // Two words from the word p of the list on.
 fn put_two(list: &mut [i32], p: usize, u: u32, v: u32)
     requires { p + 2 ≤ length list.old }
-    ensures { ups (new list) ≡ set (set (ups (old list)) p u) (p + 1) v }
+    ensures { ups list.new ≡ set (set (ups list.old) p u) (p + 1) v }
 {
     fixed::put(list, p, u);
     fixed::put(list, p + 1, v);
@@ -300,7 +301,7 @@ fn put_two(list: &mut [i32], p: usize, u: u32, v: u32)
 // Two anchors after those made, if there is room: their places along lie from the word a of the list on, those across from the word c on.
 fn emit(list: &mut [i32], a: usize, c: usize, made: usize, u: u32, v: u32, w: u32) -> usize
     requires { (made ≤ ANCHORS) × Spaced a c (length list.old) }
-    ensures { Emitted result made u v w (column_in a made list) (column_out a result list) (column_in c made list) (column_out c result list) × Else a c (old list) (new list) }
+    ensures { Emitted result made u v w (column_in a made list.old) (column_out a result list.new) (column_in c made list.old) (column_out c result list.new) × Else a c list.old list.new }
 {
     if ANCHORS < made + 2 {
         return TOO_MANY;
@@ -323,7 +324,7 @@ fn yields(
     made: usize,
 ) -> usize
     requires { (made ≤ ANCHORS) × Spaced a c (length list.old) × Inside (length xs.now) (ups xs.now) }
-    ensures { Emitted result made (coord_in xs (v / SPAN) + 1) (coord_in xs (v % SPAN) - 1) (middle (coord_in ys i) (coord_in ys top)) (column_in a made list) (column_out a result list) (column_in c made list) (column_out c result list) × Else a c (old list) (new list) }
+    ensures { Emitted result made (coord_in xs.now (v / SPAN) + 1) (coord_in xs.now (v % SPAN) - 1) (middle (coord_in ys.now i) (coord_in ys.now top)) (column_in a made list.old) (column_out a result list.new) (column_in c made list.old) (column_out c result list.new) × Else a c list.old list.new }
 {
     let lo = coord(xs, v / SPAN) + 1;
     let hi = less(coord(xs, v % SPAN));
@@ -345,7 +346,7 @@ fn corridor(
     made: usize,
 ) -> usize
     requires { Roomy rows.old list.old a c × (i < n) × (n ≤ CELLS) × (j < length (row rows.old i)) × (made ≤ ANCHORS) × Inside (length xs.now) (ups xs.now) }
-    ensures { Laid result (plan n (new rows) (new list) a c result) (corridor (ups (old xs)) (ups (old ys)) n i j (plan n (old rows) (old list) a c made)) × Else a c (old list) (new list) }
+    ensures { Laid result (plan n rows.new list.new a c result) (corridor (ups xs.now) (ups ys.now) n i j (plan n rows.old list.old a c made)) × Else a c list.old list.new }
 {
     let v = rows[i * WIDTH + 1 + j];
     let top = take_out(rows, v, i + 1, n);
@@ -365,7 +366,7 @@ fn row_corridors(
     begin: usize,
 ) -> usize
     requires { Roomy rows.old list.old a c × (i < n) × (n ≤ CELLS) × (begin ≤ ANCHORS) × Inside (length xs.now) (ups xs.now) }
-    ensures { Laid result (plan n (new rows) (new list) a c result) (row_corridors (ups (old xs)) (ups (old ys)) n i (plan n (old rows) (old list) a c begin)) × Else a c (old list) (new list) }
+    ensures { Laid result (plan n rows.new list.new a c result) (row_corridors (ups xs.now) (ups ys.now) n i (plan n rows.old list.old a c begin)) × Else a c list.old list.new }
 {
     let k = count(rows, i);
     let mut made = begin;
@@ -392,7 +393,7 @@ fn merged(
     begin: usize,
 ) -> usize
     requires { Roomy rows.old list.old a c × (n ≤ CELLS) × (begin ≤ ANCHORS) × Inside (length xs.now) (ups xs.now) }
-    ensures { Laid result (plan n (new rows) (new list) a c result) (fold (row_corridors (ups (old xs)) (ups (old ys)) n) 0 n (plan n (old rows) (old list) a c begin)) × Else a c (old list) (new list) }
+    ensures { Laid result (plan n rows.new list.new a c result) (fold (row_corridors (ups xs.now) (ups ys.now) n) 0 n (plan n rows.old list.old a c begin)) × Else a c list.old list.new }
 {
     let mut made = begin;
     let mut i = 0;
@@ -422,7 +423,7 @@ fn corridors(
     begin: usize,
 ) -> usize
     requires { Roomy rows.old list.old a c × Held b from.now to.now low.now high.now × (length xs.now ≤ EDGES) × (length ys.now ≤ EDGES) × (begin ≤ ANCHORS) × Inside (length xs.now) (ups xs.now) }
-    ensures { Laid result (plan (length (old ys) - 1) (new rows) (new list) a c result) (corridors (boxes_in b from to low high) (ups (old xs)) (ups (old ys)) (column_in a begin list) (column_in c begin list)) × Else a c (old list) (new list) }
+    ensures { Laid result (plan (length ys.now - 1) rows.new list.new a c result) (corridors (boxes_in b from.now to.now low.now high.now) (ups xs.now) (ups ys.now) (column_in a begin list.old) (column_in c begin list.old)) × Else a c list.old list.new }
 {
     let m = gaps(xs.len());
     let n = gaps(ys.len());
@@ -431,7 +432,7 @@ fn corridors(
 }
 
 // The first `level` anchors have X directions, the others Y; over ANCHORS in all: no room.
-#[derive(Drop)]
+#[derive(Clone, Copy)]
 struct Found {
     level: usize,
     all: usize,
@@ -452,7 +453,7 @@ fn implicit(
     ys: &[i32],
 ) -> Found
     requires { Roomy rows.old list.old a c × Held b left.now right.now low.now high.now × (length xs.now ≤ EDGES) × (length ys.now ≤ EDGES) × Inside (length xs.now) (ups xs.now) × Inside (length ys.now) (ups ys.now) }
-    ensures { Crossed result.all (found result.level result.all (new list) a c) (implicit (boxes_in b left right low high) (boxes_in b low high left right) (ups (old xs)) (ups (old ys))) × Else a c (old list) (new list) }
+    ensures { Crossed result.all (found result.level result.all list.new a c) (implicit (boxes_in b left.now right.now low.now high.now) (boxes_in b low.now high.now left.now right.now) (ups xs.now) (ups ys.now)) × Else a c list.old list.new }
 {
     let level = corridors(rows, list, a, c, left, right, low, high, b, xs, ys, 0);
     if ANCHORS < level {
@@ -480,7 +481,7 @@ fn between(
     ys: &[i32],
 ) -> Found
     requires { Roomy rows.old list.old a c × (b ≤ BOXES) × (PADDED_WORDS ≤ length boxes.now) × (length xs.now ≤ EDGES) × (length ys.now ≤ EDGES) × Inside (length xs.now) (ups xs.now) × Inside (length ys.now) (ups ys.now) }
-    ensures { Crossed result.all (found result.level result.all (new list) a c) (implicit (stacked b (old boxes)) (turned (stacked b (old boxes))) (ups (old xs)) (ups (old ys))) × Else a c (old list) (new list) }
+    ensures { Crossed result.all (found result.level result.all list.new a c) (implicit (stacked b boxes.now) (turned (stacked b boxes.now)) (ups xs.now) (ups ys.now)) × Else a c list.old list.new }
 {
     implicit(
         rows,
@@ -509,7 +510,7 @@ fn make(
     b: usize,
 ) -> Found
     requires { Roomy rows.old list.old a c × (EDGES ≤ length xs.old) × (EDGES ≤ length ys.old) × (b ≤ BOXES) × (PADDED_WORDS ≤ length boxes.now) × Bounded b boxes.now }
-    ensures { Crossed result.all (found result.level result.all (new list) a c) (anchors (stacked b (old boxes))) × Else a c (old list) (new list) }
+    ensures { Crossed result.all (found result.level result.all list.new a c) (anchors (stacked b boxes.now)) × Else a c list.old list.new }
 {
     let nx = axis::edges(xs, boxes, 0, b);
     let ny = axis::edges(ys, boxes, 1, b);
@@ -529,7 +530,7 @@ fn way(level: usize, i: usize) -> u32
 // The directions of n anchors, the first `level` of which lie in rows: the n words from the word d of the list on.
 fn mark(list: &mut [i32], d: usize, level: usize, n: usize)
     requires { d + n ≤ length list.old }
-    ensures { (column_out d n list ≡ directions level n) × Within d n (old list) (new list) }
+    ensures { (column_out d n list.new ≡ directions level n) × Within d n list.old list.new }
 {
     let mut i = 0;
     while i < n {
@@ -549,7 +550,7 @@ pub fn generate_implicit_anchors(
     b: usize,
 ) -> usize
     requires { (TABLE ≤ length rows.old) × (n + ANCHORS ≤ COORDS) × (ANCHOR_WORDS ≤ length list.old) × (EDGES ≤ length xs.old) × (EDGES ≤ length ys.old) × (b ≤ BOXES) × (PADDED_WORDS ≤ length boxes.now) × Bounded b boxes.now }
-    ensures { Answered result n (old list) (new list) (anchors (stacked b (old boxes))) }
+    ensures { Answered result n list.old list.new (anchors (stacked b boxes.now)) }
 {
     let f = make(rows, list, n, fixed::COORDS + n, xs, ys, boxes, b);
     if ANCHORS < f.all {

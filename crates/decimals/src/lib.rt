@@ -1,4 +1,6 @@
 // Plain decimals and separators in bytes: read from a lent text, and written into a lent buffer.
+#![tactic(auto)]
+
 ghost use Rattle.std.specs.Prelude.{◌≡◌, ◌+◌, ◌-◌, ◌*◌, ◌≤◌, ◌<◌, [], ◌∷◌, length, drop};
 ghost use Rattle.decimals.specs.Bytes.{place, same};
 ghost use Rattle.decimals.specs.Decimal.{BASE, amount_of, cap, number_of, summed};
@@ -52,14 +54,14 @@ pub fn same_bytes(a: &[u8], b: &[u8]) -> bool
 }
 
 // What digits write, cut off at BASE.
-#[derive(Drop)]
+#[derive(Clone, Copy)]
 pub enum Amount {
     Is(u64),
     NoAmount,
 }
 
 // What a plain decimal writes, above BASE or below it.
-#[derive(Drop)]
+#[derive(Clone, Copy)]
 pub enum Number {
     Word(u64),
     NoNumber,

@@ -1,4 +1,6 @@
 // A desk: boxes, ports, nets and ends in a lent slice of words, with a pile of up to 32 undo entries.
+#![tactic(auto)]
+
 ghost use Rattle.std.specs.Prelude.{◌≡◌, true, [], map, ◌+◌, ◌*◌, ◌≤◌, ◌<◌, length, get_or};
 ghost use Rattle.rows.specs.Rows.{count, scan, rows as rows_of};
 ghost use Rattle.book.specs.declared.Kind.{Kind};

@@ -1,4 +1,6 @@
 // A layout on a desk.
+#![tactic(auto)]
+
 ghost use Rattle.std.specs.Prelude.{◌≡◌, true, ◌&&◌, ℕ, ◌≤◌, leb, length};
 ghost use Rattle.desk.specs.Sizes.{DESK};
 ghost use Rattle.book.specs.Book.{valid};

@@ -1,4 +1,6 @@
 // A search on a desk.
+#![tactic(auto)]
+
 ghost use Rattle.std.specs.Prelude.{◌≡◌, true, ◌&&◌, List, ℕ, ◌<◌, ◌≤◌, leb, length};
 ghost use Rattle.fixed.specs.Up.{up, ups};
 ghost use Rattle.rows.specs.Rows.{scan};

@@ -1,6 +1,5 @@
 -- A lent list that holds several columns, one behind the other: they are lists again.
 use Rattle.std.specs.Prelude.{List, [], ◌∷◌, ◌++◌, ℕ, zero, suc, ◌+◌, ℤ, get_or}
-use Rattle.fixed.specs.Seen.{Lent, old, new}
 use Rattle.fixed.specs.Up.{ups}
 
 -- of the words w those at f 0, f 1, .., n of them
@@ -17,11 +16,11 @@ unfoldable pub column : ℕ → ℕ → List ℤ → List ℕ
 column b n l = pick (cell b) n (ups l)
 
 -- what a clause sees of a lent list: a column, and one coordinate
-abbrev pub column_in : ℕ → ℕ → Lent (List ℤ) → List ℕ
-column_in b n l = column b n (old l)
+abbrev pub column_in : ℕ → ℕ → List ℤ → List ℕ
+column_in b n l = column b n l
 
-abbrev pub column_out : ℕ → ℕ → Lent (List ℤ) → List ℕ
-column_out b n l = column b n (new l)
+abbrev pub column_out : ℕ → ℕ → List ℤ → List ℕ
+column_out b n l = column b n l
 
-abbrev pub coord_in : Lent (List ℤ) → ℕ → ℕ
-coord_in l i = get_or (ups (old l)) i 0
+abbrev pub coord_in : List ℤ → ℕ → ℕ
+coord_in l i = get_or (ups l) i 0

@@ -1,4 +1,6 @@
 // Separation of wires that share a corridor.
+#![tactic(auto)]
+
 ghost use Rattle.std.specs.Prelude.{◌≡◌, not, true, false, ℕ, ◌+◌, ◌-◌, ◌<◌, ◌≤◌, length, take};
 ghost use Rattle.fixed.specs.Up.{ups};
 ghost use Rattle.fixed.specs.Track.{TRACKS, track, moved};

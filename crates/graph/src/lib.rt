@@ -1,6 +1,7 @@
 // The graph of padded boxes and anchors: axis lists, nodes, scans, and pruning if it is asked for.
+#![tactic(auto)]
+
 ghost use Rattle.std.specs.Prelude.{◌≤◌, length};
-ghost use Rattle.fixed.specs.Seen.{old};
 ghost use Rattle.fixed.specs.Constants.{BOXES, COORDS, PADDED_WORDS, ANCHOR_WORDS};
 ghost use Rattle.nodes.specs.Columns.{GRAPH_WORDS, graph_out};
 ghost use Rattle.nodes.specs.Lent.{Built};
@@ -22,7 +23,7 @@ fn whole(
     requires a_bound { (a ≤ COORDS) × (ANCHOR_WORDS ≤ length anchors.now) }
     requires in_bounds { GRAPH_WORDS ≤ length nodes.old }
     requires a_in_bounds { (a ≤ length ax.old) × (a ≤ length ay.old) }
-    ensures { Built result (graph_out result nodes) (whole (boxes_of (old boxes) b) (anchors_of (old anchors) explicit a)) }
+    ensures { Built result (graph_out result nodes.new) (whole (boxes_of boxes.now b) (anchors_of anchors.now explicit a)) }
 {
     let nx = axis::axis_of(ax, 0, anchors, 0, a);
     let ny = axis::axis_of(ay, 0, anchors, fixed::ANCHOR_Y, a);
@@ -45,7 +46,7 @@ pub fn make(
     requires a_bound { (a ≤ COORDS) × (ANCHOR_WORDS ≤ length anchors.now) }
     requires in_bounds { GRAPH_WORDS ≤ length nodes.old }
     requires a_in_bounds { (a ≤ length ax.old) × (a ≤ length ay.old) }
-    ensures { Made result (graph_out result nodes) (whole (boxes_of (old boxes) b) (anchors_of (old anchors) explicit a)) (made (boxes_of (old boxes) b) (anchors_of (old anchors) explicit a) pruned) }
+    ensures { Made result (graph_out result nodes.new) (whole (boxes_of boxes.now b) (anchors_of anchors.now explicit a)) (made (boxes_of boxes.now b) (anchors_of anchors.now explicit a) pruned) }
 {
     let n = whole(boxes, b, anchors, explicit, a, ax, ay, nodes);
     if nodes::NODES < n {

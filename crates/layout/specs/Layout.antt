@@ -1,6 +1,5 @@
 -- 01, 'Nets', 'Separation' and 'Numbers handed back': all nets of a page in kept order, on the page's graph.
 use Rattle.std.specs.Prelude.{Bool, cond, List, ℕ, zero, suc, ◌+◌, ◌-◌, ◌*◌, ◌≤◌, get_or, set, replicate, ℤ}
-use Rattle.fixed.specs.Seen.{Lent, old, new}
 use Rattle.fixed.specs.Up.{BIAS}
 use Rattle.nodes.specs.Graph.{Graph}
 use Rattle.anchors.specs.Records.{NET}
@@ -61,8 +60,8 @@ pub record Fit (n j : ℕ) : Type 0 where
   pub half : 2 * j ≤ n
 
 -- what a clause sees of the lent lists of a page
-abbrev pub page_in : Lent (List ℕ) → Lent (List ℤ) → Lent (List ℤ) → Lent (List ℕ) → ℕ → Lent (List ℕ) → ℕ → Page
-page_in nets x y letters n joins j = page (old nets) (vertices_in x y letters n) (old joins) j
+abbrev pub page_in : List ℕ → List ℤ → List ℤ → List ℕ → ℕ → List ℕ → ℕ → Page
+page_in nets x y letters n joins j = page nets (vertices_in x y letters n) joins j
 
-abbrev pub page_out : Lent (List ℕ) → Lent (List ℤ) → Lent (List ℤ) → Lent (List ℕ) → ℕ → Lent (List ℕ) → ℕ → Page
-page_out nets x y letters n joins j = page (new nets) (vertices_out x y letters n) (new joins) j
+abbrev pub page_out : List ℕ → List ℤ → List ℤ → List ℕ → ℕ → List ℕ → ℕ → Page
+page_out nets x y letters n joins j = page nets (vertices_out x y letters n) joins j

@@ -1,6 +1,7 @@
 // All nets of a page: routed one after another on the page's graph, then separated.
+#![tactic(auto)]
+
 ghost use Rattle.std.specs.Prelude.{◌≡◌, ◌+◌, ◌-◌, ◌*◌, ◌<◌, ◌≤◌, length, take};
-ghost use Rattle.fixed.specs.Seen.{old, new};
 ghost use Rattle.fixed.specs.Up.{ups};
 ghost use Rattle.wire.specs.Wires.{vertices, vertices_in};
 ghost use Rattle.layout.specs.Separated.{separated};
@@ -20,7 +21,7 @@ const END_WORDS: usize = 16384;
 fn separate(x: &mut [i32], y: &mut [i32], kinds: &[u8], n: usize, joins: &[u32], j: usize)
     requires n_in_bounds { (n ≤ length x.old) × (n ≤ length y.old) × (n ≤ length kinds.now) × (3 * j ≤ length joins.now) }
     requires separable { Separable (vertices (ups x.old) (ups y.old) kinds.now n) (take (3 * j) joins.now) }
-    ensures { vertices (ups (new x)) (ups (new y)) (old kinds) n ≡ separated (old joins) j (vertices_in x y kinds n) }
+    ensures { vertices (ups x.new) (ups y.new) kinds.now n ≡ separated joins.now j (vertices_in x.old y.old kinds.now n) }
 {
     fixup::separate_wires(&mut x[..n], &mut y[..n], kinds, &joins[..3 * j]);
 }
@@ -28,7 +29,7 @@ fn separate(x: &mut [i32], y: &mut [i32], kinds: &[u8], n: usize, joins: &[u32],
 // Writes the row of the net i.
 fn put_net(nets: &mut [u32], i: usize, number: u32, first: u32, count: u32, begin: u32, joins: u32)
     requires { (i < 64) × (i * NET_ROW + 5 ≤ length nets.old) }
-    ensures { new nets ≡ put_net (old nets) i number first count begin joins }
+    ensures { nets.new ≡ put_net nets.old i number first count begin joins }
 {
     nets[i * 5] = number;
     nets[i * 5 + 1] = first;
@@ -39,14 +40,14 @@ fn put_net(nets: &mut [u32], i: usize, number: u32, first: u32, count: u32, begi
 
 // Zeros everywhere: a page with no net.
 pub fn clear(nets: &mut [u32], x: &mut [i32], y: &mut [i32], letters: &mut [u8], joins: &mut [u32])
-    ensures { page_out nets x y letters 0 joins 0 ≡ blank (length (old nets)) (length (old x)) (length (old y)) (length (old letters)) (length (old joins)) }
+    ensures { page_out nets.new x.new y.new letters.new 0 joins.new 0 ≡ blank (length nets.old) (length x.old) (length y.old) (length letters.old) (length joins.old) }
 {
     zeros::zero_words(nets, 0);
     net::refuse(0, x, y, letters, 0, joins, 0);
 }
 
 // How many vertices and junctions a page has.
-#[derive(Drop)]
+#[derive(Clone, Copy)]
 pub struct Counts {
     pub n: usize,
     pub j: usize,
@@ -66,7 +67,7 @@ fn more(after: usize, before: usize) -> u32
 // Writes the row of the net i: the page has m vertices in place of n, and k junctions in place of j.
 fn record_net(nets: &mut [u32], i: usize, number: u32, n: usize, m: usize, j: usize, k: usize)
     requires { (i < 64) × (i * NET_ROW + 5 ≤ length nets.old) × (n ≤ 512) × (m ≤ 512) × (j ≤ 256) × (k ≤ 256) }
-    ensures { new nets ≡ put_net (old nets) i number n (m - n) j (k - j) }
+    ensures { nets.new ≡ put_net nets.old i number n (m - n) j (k - j) }
 {
     put_net(nets, i, number, n as u32, more(m, n), j as u32, more(k, j));
 }
@@ -94,7 +95,7 @@ fn lay_net(
     requires ne_bound { (ne ≤ 256) × (ne * 4 ≤ length ends.now) × (i < 64) × (320 ≤ length nets.old) }
     requires in_bounds { (512 ≤ length x.old) × (512 ≤ length y.old) × (512 ≤ length letters.old) × (768 ≤ length joins.old) × (laid.n ≤ 512) × (2 * laid.j ≤ laid.n) }
     requires rows_len { length rows.old ≡ END_WORDS }
-    ensures j_value { (page_out nets x y letters result.n joins result.j) ≡ with_net i (net_of (graph_in n nodes) (old ends) ne id (page_in nets x y letters laid.n joins laid.j)) (page_in nets x y letters laid.n joins laid.j) }
+    ensures j_value { (page_out nets.new x.new y.new letters.new result.n joins.new result.j) ≡ with_net i (net_of (graph_in n nodes.now) ends.now ne id (page_in nets.old x.old y.old letters.old laid.n joins.old laid.j)) (page_in nets.old x.old y.old letters.old laid.n joins.old laid.j) }
     ensures fit { Fit result.n result.j }
 {
     let mut px: [u32; 256] = [0; 256];
@@ -142,7 +143,7 @@ fn lay_each(
     requires nn_bound { (nn ≤ 64) × (nn ≤ length ids.now) × (ne ≤ 256) × (ne * 4 ≤ length ends.now) × (320 ≤ length nets.old) }
     requires in_bounds { (512 ≤ length x.old) × (512 ≤ length y.old) × (512 ≤ length letters.old) × (768 ≤ length joins.old) }
     requires rows_len { length rows.old ≡ END_WORDS }
-    ensures j_value { (page_out nets x y letters result.n joins result.j) ≡ nets_to (graph_in n nodes) (old ids) (old ends) ne nn (page_in nets x y letters 0 joins 0) }
+    ensures j_value { (page_out nets.new x.new y.new letters.new result.n joins.new result.j) ≡ nets_to (graph_in n nodes.now) ids.now ends.now ne nn (page_in nets.old x.old y.old letters.old 0 joins.old 0) }
     ensures fit { Fit result.n result.j }
 {
     let mut laid = Counts { n: 0, j: 0 };
@@ -174,7 +175,7 @@ fn lay_nets(
     requires ready { (0 < n → Ready (graph n nodes.now)) × (GRAPH_WORDS ≤ length nodes.now) }
     requires nn_bound { (nn ≤ 64) × (nn ≤ length ids.now) × (ne ≤ 256) × (ne * 4 ≤ length ends.now) × (320 ≤ length nets.old) }
     requires in_bounds { (512 ≤ length x.old) × (512 ≤ length y.old) × (512 ≤ length letters.old) × (768 ≤ length joins.old) }
-    ensures j_value { (page_out nets x y letters result.n joins result.j) ≡ nets_to (graph_in n nodes) (old ids) (old ends) ne nn (page_in nets x y letters 0 joins 0) }
+    ensures j_value { (page_out nets.new x.new y.new letters.new result.n joins.new result.j) ≡ nets_to (graph_in n nodes.now) ids.now ends.now ne nn (page_in nets.old x.old y.old letters.old 0 joins.old 0) }
     ensures fit { Fit result.n result.j }
 {
     if nn == 0 {
@@ -216,7 +217,7 @@ pub fn lay_out(
     requires ground { Ground LOWEST HIGHEST (graph n nodes.now) × (GRAPH_WORDS ≤ length nodes.now) }
     requires nn_bound { (nn ≤ 64) × (nn ≤ length ids.now) × (ne ≤ 256) × (ne * 4 ≤ length ends.now) × (320 ≤ length nets.old) }
     requires in_bounds { (512 ≤ length x.old) × (512 ≤ length y.old) × (512 ≤ length letters.old) × (768 ≤ length joins.old) }
-    ensures { (page_out nets x y letters result.n joins result.j) ≡ drawn apart (nets_to (graph_in n nodes) (old ids) (old ends) ne nn (blank (length (old nets)) (length (old x)) (length (old y)) (length (old letters)) (length (old joins)))) }
+    ensures { (page_out nets.new x.new y.new letters.new result.n joins.new result.j) ≡ drawn apart (nets_to (graph_in n nodes.now) ids.now ends.now ne nn (blank (length nets.old) (length x.old) (length y.old) (length letters.old) (length joins.old))) }
 {
     clear(nets, x, y, letters, joins);
     let c = lay_nets(nodes, n, ids, nn, ends, ne, nets, x, y, letters, joins);

@@ -1,4 +1,6 @@
 // Writes a laid-out page as the listing of 01's program `wires`, into a lent buffer.
+#![tactic(auto)]
+
 ghost use Rattle.std.specs.Prelude.{[], ◌∷◌, ◌++◌, ◌+◌, ◌-◌, ◌*◌, ◌%◌, ◌<◌, ◌≤◌, ◌≡◌, length, get_or};
 ghost use Rattle.fixed.specs.Up.{ups};
 ghost use Rattle.decimals.specs.Bytes.{TAB, LF};

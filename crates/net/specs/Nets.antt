@@ -1,7 +1,6 @@
 -- 01, 'Nets' (`connect_net`) and 'Numbers handed back' 12 to 15: one net on a built graph. G is the graph; px and py are the columns of the net's endpoints.
 -- The page's vertices and junctions hold those of earlier nets too, and all indices are the page's.
 use Rattle.std.specs.Prelude.{Bool, true, false, ◌||◌, not, cond, List, [], ◌∷◌, ℕ, zero, suc, ◌+◌, ◌*◌, ◌/◌, ◌%◌, eqb, ltb, length, get_or, replicate, ℤ}
-use Rattle.fixed.specs.Seen.{Lent, old, new}
 use Rattle.fixed.specs.Up.{BIAS}
 use Rattle.nodes.specs.Graph.{Graph, seek}
 use Rattle.path_finding.specs.Line.{table}
@@ -130,8 +129,8 @@ connect_net G px py P R j =
 
 -- ---- what a clause sees of the lent lists
 
-abbrev pub branched_in : ℕ → Lent (List ℤ) → Lent (List ℤ) → Lent (List ℕ) → ℕ → Lent (List ℕ) → ℕ → Lent (List ℕ) → ℕ → Branched
-branched_in number x y letters n rows m joins j = branched number (wires_in x y letters n rows m) (old joins) j
+abbrev pub branched_in : ℕ → List ℤ → List ℤ → List ℕ → ℕ → List ℕ → ℕ → List ℕ → ℕ → Branched
+branched_in number x y letters n rows m joins j = branched number (wires_in x y letters n rows m) joins j
 
-abbrev pub branched_out : ℕ → Lent (List ℤ) → Lent (List ℤ) → Lent (List ℕ) → ℕ → Lent (List ℕ) → ℕ → Lent (List ℕ) → ℕ → Branched
-branched_out number x y letters n rows m joins j = branched number (wires_out x y letters n rows m) (new joins) j
+abbrev pub branched_out : ℕ → List ℤ → List ℤ → List ℕ → ℕ → List ℕ → ℕ → List ℕ → ℕ → Branched
+branched_out number x y letters n rows m joins j = branched number (wires_out x y letters n rows m) joins j

@@ -1,6 +1,7 @@
 // One net of a page, on a built graph.
+#![tactic(auto)]
+
 ghost use Rattle.std.specs.Prelude.{◌≡◌, true, false, cond, eqb, [], ◌∷◌, ◌+◌, ◌*◌, ◌<◌, ◌≤◌, length, take, drop};
-ghost use Rattle.fixed.specs.Seen.{old, new};
 ghost use Rattle.fixed.specs.Up.{ups};
 ghost use Rattle.nodes.specs.Graph.{NODES};
 ghost use Rattle.nodes.specs.Columns.{GRAPH_WORDS, graph_in, whole_in};
@@ -22,7 +23,7 @@ const ROW: usize = 4;
 const FEW: usize = 256;
 
 // What a net leaves: its number, and how many vertices and junctions the page has then.
-#[derive(Drop)]
+#[derive(Clone, Copy)]
 pub struct Done {
     pub number: u32,
     pub n: usize,
@@ -32,7 +33,7 @@ pub struct Done {
 // Whether the node s has an X direction.
 fn is_along(nodes: &[i32], s: usize) -> bool
     requires { (s < NODES) × (GRAPH_WORDS ≤ length nodes.now) }
-    ensures { result ≡ along_at (whole_in nodes).marks s }
+    ensures { result ≡ along_at (whole_in nodes.now).marks s }
 {
     nodes::mark_of(nodes, s) % 4 != 0
 }
@@ -40,7 +41,7 @@ fn is_along(nodes: &[i32], s: usize) -> bool
 // Whether the node at (x, y) has an X direction.
 fn along(nodes: &[i32], n: usize, x: u32, y: u32) -> bool
     requires { (n ≤ NODES) × (GRAPH_WORDS ≤ length nodes.now) }
-    ensures { result ≡ alongFrom (graph_in n nodes) x y }
+    ensures { result ≡ alongFrom (graph_in n nodes.now) x y }
 {
     let s = nodes::find_node(nodes, n, x, y);
     if s < n {
@@ -52,7 +53,7 @@ fn along(nodes: &[i32], n: usize, x: u32, y: u32) -> bool
 // Whether each endpoint is a node.
 pub fn are_nodes(nodes: &[i32], n: usize, px: &[u32], py: &[u32]) -> bool
     requires { (n ≤ NODES) × (GRAPH_WORDS ≤ length nodes.now) × (length py.now ≡ length px.now) }
-    ensures { result ≡ known_to (graph_in n nodes) (old px) (old py) (length (old px)) }
+    ensures { result ≡ known_to (graph_in n nodes.now) px.now py.now (length px.now) }
 {
     let mut ok = true;
     let mut i: usize = 0;
@@ -67,7 +68,7 @@ pub fn are_nodes(nodes: &[i32], n: usize, px: &[u32], py: &[u32]) -> bool
 // Whether the row k is an end of the net.
 fn owns(ends: &[u32], id: u32, k: usize) -> bool
     requires { (k < 256) × (k * ROW + ROW ≤ length ends.now) }
-    ensures { result ≡ ownsRow (old ends) id k }
+    ensures { result ≡ ownsRow ends.now id k }
 {
     ends[k * ROW] == id
 }
@@ -76,7 +77,7 @@ fn owns(ends: &[u32], id: u32, k: usize) -> bool
 fn take_point(ends: &[u32], id: u32, k: usize, px: &mut [u32], py: &mut [u32], m: usize) -> usize
     requires k_bound { (k < 256) × (k * ROW + ROW ≤ length ends.now) × (m ≤ k) × (k < length px.old) × (k < length py.old) }
     requires px_value { (take m px.old ≡ column 1 ends.now id k) × (take m py.old ≡ column 2 ends.now id k) }
-    ensures { (result ≤ k + 1) × (take result (new px) ≡ column 1 (old ends) id (k + 1)) × (take result (new py) ≡ column 2 (old ends) id (k + 1)) }
+    ensures { (result ≤ k + 1) × (take result px.new ≡ column 1 ends.now id (k + 1)) × (take result py.new ≡ column 2 ends.now id (k + 1)) }
 {
     if owns(ends, id, k) {
         px[m] = ends[k * ROW + 1];
@@ -89,7 +90,7 @@ fn take_point(ends: &[u32], id: u32, k: usize, px: &mut [u32], py: &mut [u32], m
 // The endpoints of a net among `count` rows: the first entries of px and py, as many as it returns.
 pub fn take_points(ends: &[u32], count: usize, id: u32, px: &mut [u32], py: &mut [u32]) -> usize
     requires { (count ≤ 256) × (count * ROW ≤ length ends.now) × (count ≤ length px.old) × (count ≤ length py.old) }
-    ensures { (result ≤ count) × (take result (new px) ≡ column 1 (old ends) id count) × (take result (new py) ≡ column 2 (old ends) id count) }
+    ensures { (result ≤ count) × (take result px.new ≡ column 1 ends.now id count) × (take result py.new ≡ column 2 ends.now id count) }
 {
     let mut m: usize = 0;
     let mut k: usize = 0;
@@ -103,7 +104,7 @@ pub fn take_points(ends: &[u32], count: usize, id: u32, px: &mut [u32], py: &mut
 // Writes the word w of each of a net's m ends.
 fn write_ends(ends: &[u32], w: usize, m: usize, to: &mut [i32])
     requires { (w < 2) × (m ≤ 4096) × (16384 ≤ length ends.now) × (m ≤ length to.old) }
-    ensures { take m (ups (new to)) ≡ table (end_word w (old ends)) m }
+    ensures { take m (ups to.new) ≡ table (end_word w ends.now) m }
 {
     let mut i: usize = 0;
     while i < m {
@@ -123,7 +124,7 @@ pub fn refuse(
     j: usize,
 ) -> Done
     requires { (n ≤ length x.old) × (n ≤ length y.old) × (n ≤ length letters.old) × (j ≤ 256) × (3 * j ≤ length joins.old) }
-    ensures { net result.number (vertices_out x y letters result.n) (new joins) result.j ≡ refused number (vertices_in x y letters n) (old joins) j }
+    ensures { net result.number (vertices_out x.new y.new letters.new result.n) joins.new result.j ≡ refused number (vertices_in x.old y.old letters.old n) joins.old j }
 {
     zeros::zero_steps(x, n);
     zeros::zero_steps(y, n);
@@ -145,7 +146,7 @@ fn root_line(
     list: &mut [u32],
 ) -> usize
     requires { Searching n nodes.now cells.old tree.old list.old }
-    ensures { (result ≤ length (new list)) × (drop result (new list) ≡ line_between (graph_in n nodes) sx sy (tx ∷ []) (ty ∷ [])) }
+    ensures { (result ≤ length list.new) × (drop result list.new ≡ line_between (graph_in n nodes.now) sx sy (tx ∷ []) (ty ∷ [])) }
 {
     let mut ex: [i32; 1] = [0; 1];
     let mut ey: [i32; 1] = [0; 1];
@@ -172,7 +173,7 @@ fn branch_line_in(
     requires searching { Searching n nodes.now cells.old tree.old list.old }
     requires m_bound { (m ≤ 4096) × (16384 ≤ length rows.now) }
     requires m_in_bounds { (m ≤ length ex.old) × (m ≤ length ey.old) }
-    ensures { (result ≤ length (new list)) × (drop result (new list) ≡ branch_path (graph_in n nodes) sx sy (endsOf (old rows) m)) }
+    ensures { (result ≤ length list.new) × (drop result list.new ≡ branch_path (graph_in n nodes.now) sx sy (endsOf rows.now m)) }
 {
     write_ends(rows, 0, m, ex);
     write_ends(rows, 1, m, ey);
@@ -194,7 +195,7 @@ fn branch_line(
 ) -> usize
     requires searching { Searching n nodes.now cells.old tree.old list.old }
     requires m_bound { (m ≤ 4096) × (16384 ≤ length rows.now) }
-    ensures { (result ≤ length (new list)) × (drop result (new list) ≡ branch_path (graph_in n nodes) sx sy (endsOf (old rows) m)) }
+    ensures { (result ≤ length list.new) × (drop result list.new ≡ branch_path (graph_in n nodes.now) sx sy (endsOf rows.now m)) }
 {
     if m <= FEW {
         let mut ex: [i32; FEW] = [0; FEW];
@@ -231,8 +232,8 @@ fn branch(
     requires searching { Searching n nodes.now cells.old tree.old list.old }
     requires page { Page (length x.old) (length y.old) (length letters.old) (length rows.old) }
     requires count_bound { (count ≤ 512) × (0 < m) × (m ≤ 4096) × (j < 256) × (768 ≤ length joins.old) }
-    ensures m_value { tried result.number (wires_out x y letters result.n rows result.m) ≡ route_branch (branch_line (graph_in n nodes) sx sy (endsOf (old rows) m)) sx sy (alongFrom (graph_in n nodes) sx sy) (wires_in x y letters count rows m) }
-    ensures joins_value { new joins ≡ join_branch (branch_line (graph_in n nodes) sx sy (endsOf (old rows) m)) sx sy (alongFrom (graph_in n nodes) sx sy) (wires_in x y letters count rows m) (old joins) j }
+    ensures m_value { tried result.number (wires_out x.new y.new letters.new result.n rows.new result.m) ≡ route_branch (branch_line (graph_in n nodes.now) sx sy (endsOf rows.old m)) sx sy (alongFrom (graph_in n nodes.now) sx sy) (wires_in x.old y.old letters.old count rows.old m) }
+    ensures joins_value { joins.new ≡ join_branch (branch_line (graph_in n nodes.now) sx sy (endsOf rows.old m)) sx sy (alongFrom (graph_in n nodes.now) sx sy) (wires_in x.old y.old letters.old count rows.old m) joins.old j }
 {
     let ahead = along(nodes, n, sx, sy);
     let at = branch_line(nodes, n, sx, sy, rows, m, cells, tree, list);
@@ -255,7 +256,7 @@ fn branch(
 }
 
 // What is made of a net so far: 0 or why a wire was refused, the page's vertices, the net's ends and the page's junctions.
-#[derive(Drop)]
+#[derive(Clone, Copy)]
 pub struct Made {
     pub number: u32,
     pub n: usize,
@@ -306,7 +307,7 @@ pub fn branch_at(
     requires searching { Searching n nodes.now cells.old tree.old list.old }
     requires page { Page (length x.old) (length y.old) (length letters.old) (length rows.old) }
     requires i_in_bounds { (i < length px.now) × (length px.now ≤ 256) × (length py.now ≡ length px.now) × (made.number ≡ 0 → Bounds made.n made.m made.j) × (768 ≤ length joins.old) }
-    ensures { branched_out result.number x y letters result.n rows result.m joins result.j ≡ branch_at (graph_in n nodes) (old px) (old py) a b i (branched_in made.number x y letters made.n rows made.m joins made.j) }
+    ensures { branched_out result.number x.new y.new letters.new result.n rows.new result.m joins.new result.j ≡ branch_at (graph_in n nodes.now) px.now py.now a b i (branched_in made.number x.old y.old letters.old made.n rows.old made.m joins.old made.j) }
 {
     if made.number != 0 {
         return made;
@@ -341,7 +342,7 @@ pub fn root_at(
     requires searching { Searching n nodes.now cells.old tree.old list.old }
     requires page { Page (length x.old) (length y.old) (length letters.old) (length rows.old) }
     requires a_in_bounds { (a < length px.now) × (b < length px.now) × (length px.now ≤ 256) × (length py.now ≡ length px.now) × (count ≤ 512) }
-    ensures { tried result.number (wires_out x y letters result.n rows result.m) ≡ root_wire (graph_in n nodes) (old px) (old py) a b (wires_in x y letters count rows 0) }
+    ensures { tried result.number (wires_out x.new y.new letters.new result.n rows.new result.m) ≡ root_wire (graph_in n nodes.now) px.now py.now a b (wires_in x.old y.old letters.old count rows.old 0) }
 {
     let sx = px[a];
     let sy = py[a];

@@ -1,6 +1,5 @@
 -- The graph in one lent list: four columns of 4,096 nodes one behind the other, x, y, four links a node (NegX, PosX, NegY, PosY), marks; and room for a fifth link.
 use Rattle.std.specs.Prelude.{List, ℕ, ◌*◌, ℤ, take}
-use Rattle.fixed.specs.Seen.{Lent, old, new}
 use Rattle.fixed.specs.Up.{ups}
 use Rattle.fixed.specs.Columns.{pick, cell}
 use Rattle.nodes.specs.Graph.{Graph, NODES, LINKS}
@@ -22,14 +21,14 @@ abbrev pub graph : ℕ → List ℤ → Graph
 graph n l = first n (whole l)
 
 -- what a clause sees of a lent list of nodes
-abbrev pub whole_in : Lent (List ℤ) → Graph
-whole_in l = whole (old l)
+abbrev pub whole_in : List ℤ → Graph
+whole_in l = whole l
 
-abbrev pub whole_out : Lent (List ℤ) → Graph
-whole_out l = whole (new l)
+abbrev pub whole_out : List ℤ → Graph
+whole_out l = whole l
 
-abbrev pub graph_in : ℕ → Lent (List ℤ) → Graph
-graph_in n l = graph n (old l)
+abbrev pub graph_in : ℕ → List ℤ → Graph
+graph_in n l = graph n l
 
-abbrev pub graph_out : ℕ → Lent (List ℤ) → Graph
-graph_out n l = graph n (new l)
+abbrev pub graph_out : ℕ → List ℤ → Graph
+graph_out n l = graph n l

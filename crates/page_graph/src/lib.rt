@@ -1,6 +1,7 @@
 // The graph of a page, from its records.
+#![tactic(auto)]
+
 ghost use Rattle.std.specs.Prelude.{◌≡◌, cond, ◌++◌, ◌+◌, ◌-◌, ◌*◌, ◌<◌, ◌≤◌, ltb, length, replicate};
-ghost use Rattle.fixed.specs.Seen.{old, new};
 ghost use Rattle.fixed.specs.Constants.{BOXES, COORDS, PADDED_WORDS, ANCHOR_WORDS};
 ghost use Rattle.fixed.specs.Columns.{column};
 ghost use Rattle.sightline.specs.Boxes.{edges, Fields};
@@ -14,7 +15,7 @@ ghost use Rattle.page_graph.specs.Page.{padded_boxes, overfull, all_anchors, anc
 ghost use Rattle.page_graph.specs.Lent.{EXPLICIT, Asked, Scratch, Edged, Within, Before, Answered};
 
 // The graph of a page: over a limit of 01, or how many nodes it has.
-#[derive(Drop)]
+#[derive(Clone, Copy)]
 pub enum Graphed {
     Crowded,
     Nodes(usize),
@@ -24,7 +25,7 @@ pub enum Graphed {
 fn pad_column(list: &mut [i32], a: usize, rows: &[u32], field: usize, high: bool, n: usize)
     requires n_in_bounds { a + n ≤ length list.old }
     requires fields { Fields rows.now BOX field n }
-    ensures { (column a n (new list) ≡ edges (old rows) BOX field high n) × Before a (old list) (new list) }
+    ensures { (column a n list.new ≡ edges rows.now BOX field high n) × Before a list.old list.new }
 {
     sightline::pad_edges(&mut list[a..], rows, anchors::BOX, field, high, n);
 }
@@ -33,7 +34,7 @@ fn pad_column(list: &mut [i32], a: usize, rows: &[u32], field: usize, high: bool
 fn pad_boxes(list: &mut [i32], rows: &[u32], n: usize)
     requires n_bound { (n ≤ BOXES) × (PADDED_WORDS ≤ length list.old) }
     requires edged { Edged rows.now n }
-    ensures { boxes_of (new list) n ≡ padded_boxes (old rows) n }
+    ensures { boxes_of list.new n ≡ padded_boxes rows.now n }
 {
     pad_column(list, 0, rows, 1, false, n);
     pad_column(list, fixed::MIN_Y, rows, 2, false, n);
@@ -44,7 +45,7 @@ fn pad_boxes(list: &mut [i32], rows: &[u32], n: usize)
 // The anchors from `from` to before `to` ignore no box.
 fn ignore_none(list: &mut [i32], from: usize, to: usize)
     requires { (from ≤ to) × (to ≤ COORDS) × (ANCHOR_WORDS ≤ length list.old) }
-    ensures { (column (COORDS * 3) to (new list) ≡ column (COORDS * 3) from (old list) ++ replicate (to - from) none) × Before (COORDS * 3) (old list) (new list) }
+    ensures { (column (COORDS * 3) to list.new ≡ column (COORDS * 3) from list.old ++ replicate (to - from) none) × Before (COORDS * 3) list.old list.new }
 {
     let mut i = from;
     while i < to {
@@ -79,7 +80,7 @@ fn make_graph(
     requires all_bound { (all ≤ COORDS) × (ANCHOR_WORDS ≤ length list.now) }
     requires in_bounds { GRAPH_WORDS ≤ length nodes.old }
     requires all_in_bounds { (all ≤ length ax.old) × (all ≤ length ay.old) }
-    ensures { Answered result (new nodes) (ltb NODES (whole (boxes_of (old padded) b) (anchors_of explicit (columns all (old list)))).count) (made (boxes_of (old padded) b) (anchors_of explicit (columns all (old list))) pruned) }
+    ensures { Answered result nodes.new (ltb NODES (whole (boxes_of padded.now b) (anchors_of explicit (columns all list.now))).count) (made (boxes_of padded.now b) (anchors_of explicit (columns all list.now)) pruned) }
 {
     let n = graph::make(padded, b, list, explicit, all, ax, ay, nodes, pruned);
     tell(n)
@@ -101,7 +102,7 @@ fn lay_graph(
     requires in_bounds { (ANCHOR_WORDS ≤ length list.old) × (explicit ≤ EXPLICIT) }
     requires in_bounds_2 { (TABLE ≤ length table.old) × (COORDS ≤ length ax.old) × (COORDS ≤ length ay.old) }
     requires in_bounds_3 { GRAPH_WORDS ≤ length nodes.old }
-    ensures { Answered result (new nodes) (overfull (boxes_of (old padded) b) (columns explicit (old list))) (made (boxes_of (old padded) b) (all_anchors (boxes_of (old padded) b) (columns explicit (old list))) pruned) }
+    ensures { Answered result nodes.new (overfull (boxes_of padded.now b) (columns explicit list.old)) (made (boxes_of padded.now b) (all_anchors (boxes_of padded.now b) (columns explicit list.old)) pruned) }
 {
     let m = corridors::generate_implicit_anchors(table, list, explicit, ax, ay, padded, b);
     if corridors::ANCHORS < m {
@@ -134,7 +135,7 @@ pub fn build(
     requires asked { Asked (records boxes.now nb ports.now np nets.now nn ends.now ne) }
     requires scratch { Scratch padded.old list.old table.old ax.old ay.old }
     requires in_bounds { GRAPH_WORDS ≤ length nodes.old }
-    ensures { Answered result (new nodes) (crowded (records_in boxes nb ports np nets nn ends ne)) (graph_of_page (records_in boxes nb ports np nets nn ends ne) pruned) }
+    ensures { Answered result nodes.new (crowded (records_in boxes.now nb ports.now np nets.now nn ends.now ne)) (graph_of_page (records_in boxes.now nb ports.now np nets.now nn ends.now ne) pruned) }
 {
     pad_boxes(padded, boxes, nb);
     let explicit = anchors::explicit(list, boxes, nb, ports, np, nets, nn, ends, ne);
@@ -156,7 +157,7 @@ pub fn graph_of(
 ) -> Graphed
     requires asked { Asked (records boxes.now nb ports.now np nets.now nn ends.now ne) }
     requires in_bounds { GRAPH_WORDS ≤ length nodes.old }
-    ensures { Answered result (new nodes) (crowded (records_in boxes nb ports np nets nn ends ne)) (graph_of_page (records_in boxes nb ports np nets nn ends ne) pruned) }
+    ensures { Answered result nodes.new (crowded (records_in boxes.now nb ports.now np nets.now nn ends.now ne)) (graph_of_page (records_in boxes.now nb ports.now np nets.now nn ends.now ne) pruned) }
 {
     let mut padded: [i32; fixed::PADDED_WORDS] = [0; fixed::PADDED_WORDS];
     let mut list: [i32; fixed::ANCHOR_WORDS] = [0; fixed::ANCHOR_WORDS];

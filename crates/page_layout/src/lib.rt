@@ -1,8 +1,9 @@
+#![tactic(auto)]
+
 use page_graph::Graphed;
 
 // A page laid out from its record rows.
 ghost use Rattle.std.specs.Prelude.{◌≡◌, ◌*◌, ◌≤◌, length};
-ghost use Rattle.fixed.specs.Seen.{old, new};
 ghost use Rattle.anchors.specs.Records.{records, records_in};
 ghost use Rattle.page_graph.specs.Lent.{Asked};
 ghost use Rattle.page_graph.specs.Claims.{Placed};
@@ -29,7 +30,7 @@ fn lay_on(
     requires nn_bound { (nn ≤ 64) × (nn ≤ length nets.now) × (ne ≤ 256) × (ne * 4 ≤ length ends.now) × (320 ≤ length rows.old) }
     requires in_bounds { (512 ≤ length x.old) × (512 ≤ length y.old) × (512 ≤ length kinds.old) × (768 ≤ length joins.old) }
     ensures value { result ≡ number_on g }
-    ensures joins_value { drawing (new rows) (new x) (new y) (new kinds) (new joins) ≡ laid_on g (old nodes) (old nets) nn (old ends) ne apart (drawing (old rows) (old x) (old y) (old kinds) (old joins)) }
+    ensures joins_value { drawing rows.new x.new y.new kinds.new joins.new ≡ laid_on g nodes.now nets.now nn ends.now ne apart (drawing rows.old x.old y.old kinds.old joins.old) }
 {
     match g {
         Graphed::Crowded => {
@@ -68,8 +69,8 @@ pub fn lay_out_page(
     requires placed { Placed (records boxes.now nb ports.now np nets.now nn ends.now ne) }
     requires in_bounds { (320 ≤ length rows.old) × (512 ≤ length x.old) × (512 ≤ length y.old) × (512 ≤ length kinds.old) × (768 ≤ length joins.old) }
     requires nn_bound { (nn ≤ 64) × (ne ≤ 256) }
-    ensures value { result ≡ layout_number (records_in boxes nb ports np nets nn ends ne) }
-    ensures joins_value { drawing (new rows) (new x) (new y) (new kinds) (new joins) ≡ laid (records_in boxes nb ports np nets nn ends ne) pruned apart (drawing (old rows) (old x) (old y) (old kinds) (old joins)) }
+    ensures value { result ≡ layout_number (records_in boxes.now nb ports.now np nets.now nn ends.now ne) }
+    ensures joins_value { drawing rows.new x.new y.new kinds.new joins.new ≡ laid (records_in boxes.now nb ports.now np nets.now nn ends.now ne) pruned apart (drawing rows.old x.old y.old kinds.old joins.old) }
 {
     let mut nodes: [i32; nodes::GRAPH_WORDS] = [0; nodes::GRAPH_WORDS];
     let g = page_graph::graph_of(boxes, nb, ports, np, nets, nn, ends, ne, pruned, &mut nodes);

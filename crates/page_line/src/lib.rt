@@ -1,4 +1,6 @@
 // A line of a page text as a record: its kind, and its fields as a row of words.
+#![tactic(auto)]
+
 ghost use Rattle.std.specs.Prelude.{◌≡◌, ◌≤◌, ◌<◌, length, take, drop};
 ghost use Rattle.decimals.specs.Bytes.{TAB, split};
 ghost use Rattle.decimals.specs.Write.{written};
@@ -23,14 +25,14 @@ pub const ROW: usize = 5;
 pub const LINE: usize = 96;
 
 // What a line was found to be: a record of a kind, or malformed.
-#[derive(Drop)]
+#[derive(Clone, Copy)]
 pub enum Found {
     Of(book::Kind),
     Malformed,
 }
 
 // What a field is: an id, a coordinate in steps, or a small number (directions, a mark).
-#[derive(Drop)]
+#[derive(Clone, Copy)]
 pub enum Sort {
     Ident,
     Step,

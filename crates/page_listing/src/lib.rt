@@ -1,4 +1,6 @@
 // What program `wires` prints of a page text.
+#![tactic(auto)]
+
 ghost use Rattle.std.specs.Prelude.{◌≡◌, true, ◌≤◌, eqb, length, take};
 ghost use Rattle.desk.specs.Sizes.{DESK};
 ghost use Rattle.book.specs.Book.{valid};

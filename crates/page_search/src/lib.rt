@@ -1,9 +1,10 @@
+#![tactic(auto)]
+
 use page_graph::Graphed;
 use path_finding::Answer;
 
 // A search on a page's graph.
 ghost use Rattle.std.specs.Prelude.{◌≡◌, ◌≤◌, ◌<◌, length};
-ghost use Rattle.fixed.specs.Seen.{old, new};
 ghost use Rattle.fixed.specs.Up.{ups};
 ghost use Rattle.astar.specs.Reached.{Ready};
 ghost use Rattle.nodes.specs.Columns.{GRAPH_WORDS, graph, graph_in};
@@ -25,7 +26,7 @@ fn find_on(
 ) -> Answer
     requires ready { (0 < n → Ready (graph n nodes.now)) × (GRAPH_WORDS ≤ length nodes.now) }
     requires ended { Ended ex.now ey.now }
-    ensures { Searched (graph_in n nodes) x y (ups (old ex)) (ups (old ey)) result.number result.nodes (ups (new lx)) (ups (new ly)) (new kinds) (new dirs) }
+    ensures { Searched (graph_in n nodes.now) x y (ups ex.now) (ups ey.now) result.number result.nodes (ups lx.new) (ups ly.new) kinds.new dirs.new }
 {
     if n <= path_finding::SMALL {
         if ex.len() <= path_finding::SMALL {
@@ -60,7 +61,7 @@ pub fn search_on(
 ) -> Answer
     requires searchable { Searchable g nodes.now }
     requires ended { Ended ex.now ey.now }
-    ensures { Tried g (old nodes) x y (ups (old ex)) (ups (old ey)) result.number result.nodes (ups (new lx)) (ups (new ly)) (new kinds) (new dirs) }
+    ensures { Tried g nodes.now x y (ups ex.now) (ups ey.now) result.number result.nodes (ups lx.new) (ups ly.new) kinds.new dirs.new }
 {
     match g {
         Graphed::Crowded => {

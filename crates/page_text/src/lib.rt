@@ -1,4 +1,6 @@
 // Reading a page text onto a desk.
+#![tactic(auto)]
+
 ghost use Rattle.std.specs.Prelude.{◌≡◌, ◌≤◌, ◌<◌, length};
 ghost use Rattle.desk.specs.Sizes.{DESK};
 ghost use Rattle.desk.specs.Desk.{Ready, block};
@@ -11,14 +13,14 @@ ghost use Rattle.page_text.specs.Words.{REFUSAL, leaves, read_number, read_refus
 pub const REFUSAL: usize = 2;
 
 // What a line gets: it goes, or it does not, with the inner number.
-#[derive(Drop)]
+#[derive(Clone, Copy)]
 pub enum Step {
     Went,
     Bad(u32),
 }
 
 // Where a text stops: the 1-based line and the inner number, zeros if all lines go.
-#[derive(Drop)]
+#[derive(Clone, Copy)]
 pub struct Stop {
     pub line: u32,
     pub inner: u32,

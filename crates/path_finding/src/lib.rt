@@ -1,8 +1,9 @@
+#![tactic(auto)]
+
 use astar::Found;
 
 // Lines between nodes of a graph and between places, and lines as they are handed back.
 ghost use Rattle.std.specs.Prelude.{◌≡◌, true, cond, ◌++◌, reverse, ℕ, ◌+◌, ◌-◌, ◌*◌, ◌≤◌, ◌<◌, length, get_or, set, replicate, take, drop, eqb};
-ghost use Rattle.fixed.specs.Seen.{old, new};
 ghost use Rattle.fixed.specs.Up.{ups};
 ghost use Rattle.columns.specs.Columns.{Only};
 ghost use Rattle.queue.specs.Queue.{NODES};
@@ -51,7 +52,7 @@ fn wide(x: u32) -> usize
 // Whether the node v has a link.
 fn has_link(nodes: &[i32], n: usize, v: usize) -> bool
     requires { (v < n) × (n ≤ NODES) × (GRAPH_WORDS ≤ length nodes.now) }
-    ensures { result ≡ has_link (graph_in n nodes).links v }
+    ensures { result ≡ has_link (graph_in n nodes.now).links v }
 {
     if astar::onward(nodes, n, v, 0) != NONE {
         return true;
@@ -68,7 +69,7 @@ fn has_link(nodes: &[i32], n: usize, v: usize) -> bool
 // The line to `end`, from the start: it fills `list` from the back, and is the part from the result on.
 fn build_path(cells: &[u64], n: usize, end: usize, list: &mut [u32]) -> usize
     requires { (n ≤ NODES) × (n ≤ length list.old) × (n * WIDTH ≤ length cells.now) × Traced n (preds n cells.now) end }
-    ensures { (result ≤ length (new list)) × (drop result (new list) ≡ reverse (chain n (preds n (old cells)) end)) }
+    ensures { (result ≤ length list.new) × (drop result list.new ≡ reverse (chain n (preds n cells.now) end)) }
 {
     let mut node = end;
     let mut at = list.len();
@@ -87,7 +88,7 @@ fn build_path(cells: &[u64], n: usize, end: usize, list: &mut [u32]) -> usize
 // A coordinate of the k-th node of a line, or that of 0 behind it.
 fn coordinate(cs: &[i32], n: usize, line: &[u32], k: usize) -> u32
     requires { (n ≤ length cs.now) × Below n line.now }
-    ensures { result ≡ place_at (take n (ups (old cs))) (old line) k }
+    ensures { result ≡ place_at (take n (ups cs.now)) line.now k }
 {
     if k < line.len() {
         let v = wide(line[k]);
@@ -106,7 +107,7 @@ fn taken(a: usize, b: usize) -> usize
 // Writes one coordinate of each of the first m nodes of a line.
 fn put_places(cs: &[i32], n: usize, line: &[u32], m: usize, to: &mut [i32])
     requires { (n ≤ length cs.now) × Below n line.now × (m ≤ length to.old) }
-    ensures { take m (ups (new to)) ≡ table (place_at (take n (ups (old cs))) (old line)) m }
+    ensures { take m (ups to.new) ≡ table (place_at (take n (ups cs.now)) line.now) m }
 {
     let mut k: usize = 0;
     while k < m {
@@ -119,7 +120,7 @@ fn put_places(cs: &[i32], n: usize, line: &[u32], m: usize, to: &mut [i32])
 // Writes one coordinate of each node of a line, zeros behind them.
 fn write_places(cs: &[i32], n: usize, line: &[u32], to: &mut [i32])
     requires { (n ≤ length cs.now) × Below n line.now }
-    ensures { ups (new to) ≡ table (place_at (take n (ups (old cs))) (old line)) (length (old to)) }
+    ensures { ups to.new ≡ table (place_at (take n (ups cs.now)) line.now) (length to.old) }
 {
     let m = taken(line.len(), to.len());
     put_places(cs, n, line, m, to);
@@ -143,7 +144,7 @@ fn kind(m: usize, k: usize) -> u8
 // Writes the kinds of the first j of m nodes.
 fn put_kinds(m: usize, j: usize, to: &mut [u8])
     requires { j ≤ length to.old }
-    ensures { take j (new to) ≡ table (kind_at m) j }
+    ensures { take j to.new ≡ table (kind_at m) j }
 {
     let mut k: usize = 0;
     while k < j {
@@ -155,7 +156,7 @@ fn put_kinds(m: usize, j: usize, to: &mut [u8])
 
 // Writes the kinds of m nodes, zeros behind them.
 fn write_kinds(m: usize, to: &mut [u8])
-    ensures { new to ≡ table (kind_at m) (length (old to)) }
+    ensures { to.new ≡ table (kind_at m) (length to.old) }
 {
     let j = taken(m, to.len());
     put_kinds(m, j, to);
@@ -178,7 +179,7 @@ fn bit(d: usize) -> u8
 // The direction onward of the k-th node of a line, or 0.
 pub fn direction(nodes: &[i32], n: usize, line: &[u32], k: usize) -> u8
     requires { (n ≤ NODES) × (GRAPH_WORDS ≤ length nodes.now) × Below n line.now × (k < 18446744073709551615) }
-    ensures { result ≡ direction_at (graph_in n nodes).links (old line) k }
+    ensures { result ≡ direction_at (graph_in n nodes.now).links line.now k }
 {
     if k + 1 < line.len() {
         let v = wide(line[k]);
@@ -191,7 +192,7 @@ pub fn direction(nodes: &[i32], n: usize, line: &[u32], k: usize) -> u8
 // Writes the direction onward of each of the first m nodes of a line.
 fn put_directions(nodes: &[i32], n: usize, line: &[u32], m: usize, to: &mut [u8])
     requires { (n ≤ NODES) × (GRAPH_WORDS ≤ length nodes.now) × Below n line.now × (m ≤ length to.old) }
-    ensures { take m (new to) ≡ table (direction_at (graph_in n nodes).links (old line)) m }
+    ensures { take m to.new ≡ table (direction_at (graph_in n nodes.now).links line.now) m }
 {
     let mut k: usize = 0;
     while k < m {
@@ -204,7 +205,7 @@ fn put_directions(nodes: &[i32], n: usize, line: &[u32], m: usize, to: &mut [u8]
 // Writes the direction onward of each node of a line, zeros behind them.
 fn write_directions(nodes: &[i32], n: usize, line: &[u32], to: &mut [u8])
     requires { (n ≤ NODES) × (GRAPH_WORDS ≤ length nodes.now) × Below n line.now }
-    ensures { new to ≡ table (direction_at (graph_in n nodes).links (old line)) (length (old to)) }
+    ensures { to.new ≡ table (direction_at (graph_in n nodes.now).links line.now) (length to.old) }
 {
     let m = taken(line.len(), to.len());
     put_directions(nodes, n, line, m, to);
@@ -214,7 +215,7 @@ fn write_directions(nodes: &[i32], n: usize, line: &[u32], to: &mut [u8])
 // Whether `iter_pruned` keeps the k-th node.
 pub fn is_kept(kinds: &[u8], dirs: &[u8], k: usize) -> bool
     requires { (k < length kinds.now) × (k < length dirs.now) }
-    ensures { result ≡ kept_at (old kinds) (old dirs) k }
+    ensures { result ≡ kept_at kinds.now dirs.now k }
 {
     if kinds[k] != NORMAL {
         return true;
@@ -232,7 +233,7 @@ pub fn is_kept(kinds: &[u8], dirs: &[u8], k: usize) -> bool
 // Counts the node e among the ends if it has a link and was not counted; the first m of `list` are those that were.
 fn take_end(nodes: &[i32], n: usize, e: u32, cells: &mut [u64], list: &mut [u32], m: usize) -> usize
     requires { (n ≤ NODES) × (GRAPH_WORDS ≤ length nodes.now) × (e < n) × (m < length list.old) × (n * WIDTH ≤ length cells.old) × Marked n (take m list.old) (marked n cells.old) }
-    ensures { (result ≤ m + 1) × (take result (new list) ≡ admit (graph_in n nodes).links (take m (old list)) e) × Marked n (take result (new list)) (marked n (new cells)) × Only n MARK (old cells) (new cells) × Behind m (old list) (new list) }
+    ensures { (result ≤ m + 1) × (take result list.new ≡ admit (graph_in n nodes.now).links (take m list.old) e) × Marked n (take result list.new) (marked n cells.new) × Only n MARK cells.old cells.new × Behind m list.old list.new }
 {
     let v = wide(e);
     if columns::get(cells, n, astar::MARK, v) != 0 {
@@ -249,7 +250,7 @@ fn take_end(nodes: &[i32], n: usize, e: u32, cells: &mut [u64], list: &mut [u32]
 // Marks and lists the ends that count, those with a link, each once: they take the place of the first k of `list`.
 fn gather(nodes: &[i32], n: usize, k: usize, cells: &mut [u64], list: &mut [u32]) -> usize
     requires { (n ≤ NODES) × (GRAPH_WORDS ≤ length nodes.now) × (k ≤ length list.old) × Below n (take k list.old) × (n * WIDTH ≤ length cells.old) × (marked n cells.old ≡ replicate n 0) }
-    ensures { (result ≤ k) × (take result (new list) ≡ goals (graph_in n nodes).links (take k (old list)) k) × Marked n (take result (new list)) (marked n (new cells)) × Only n MARK (old cells) (new cells) }
+    ensures { (result ≤ k) × (take result list.new ≡ goals (graph_in n nodes.now).links (take k list.old) k) × Marked n (take result list.new) (marked n cells.new) × Only n MARK cells.old cells.new }
 {
     let mut m: usize = 0;
     let mut i: usize = 0;
@@ -273,7 +274,7 @@ fn node_of(
 ) -> usize
     requires n_bound { (n ≤ NODES) × (GRAPH_WORDS ≤ length nodes.now) × (i < length ex.now) × (i < length ey.now) }
     requires mapped { mapped ≡ true → Mapped map.now (whole nodes.now).xs (whole nodes.now).ys n }
-    ensures { (result ≡ node_at (graph_in n nodes).xs (graph_in n nodes).ys n (ups (old ex)) (ups (old ey)) i) × (result ≤ n) }
+    ensures { (result ≡ node_at (graph_in n nodes.now).xs (graph_in n nodes.now).ys n (ups ex.now) (ups ey.now) i) × (result ≤ n) }
 {
     let x = fixed::at(ex, i);
     let y = fixed::at(ey, i);
@@ -295,7 +296,7 @@ fn look_up_each(
 ) -> bool
     requires n_bound { (n ≤ NODES) × (GRAPH_WORDS ≤ length nodes.now) × (length ey.now ≡ length ex.now) × (length ex.now ≤ length ends.old) }
     requires mapped { mapped ≡ true → Mapped map.now (whole nodes.now).xs (whole nodes.now).ys n }
-    ensures { (result ≡ known_to (graph_in n nodes) (ups (old ex)) (ups (old ey)) (length (old ex))) × (take (length (old ex)) (new ends) ≡ nodes_to (graph_in n nodes) (ups (old ex)) (ups (old ey)) (length (old ex))) }
+    ensures { (result ≡ known_to (graph_in n nodes.now) (ups ex.now) (ups ey.now) (length ex.now)) × (take (length ex.now) ends.new ≡ nodes_to (graph_in n nodes.now) (ups ex.now) (ups ey.now) (length ex.now)) }
 {
     let mut ok = true;
     let mut i: usize = 0;
@@ -312,7 +313,7 @@ fn look_up_each(
 fn look_up_many(nodes: &[i32], n: usize, ex: &[i32], ey: &[i32], ends: &mut [u32]) -> bool
     requires n_bound { (n ≤ NODES) × (GRAPH_WORDS ≤ length nodes.now) × (length ey.now ≡ length ex.now) × (length ex.now ≤ length ends.old) }
     requires apart { Apart (whole nodes.now).xs (whole nodes.now).ys n }
-    ensures { (result ≡ known_to (graph_in n nodes) (ups (old ex)) (ups (old ey)) (length (old ex))) × (take (length (old ex)) (new ends) ≡ nodes_to (graph_in n nodes) (ups (old ex)) (ups (old ey)) (length (old ex))) }
+    ensures { (result ≡ known_to (graph_in n nodes.now) (ups ex.now) (ups ey.now) (length ex.now)) × (take (length ex.now) ends.new ≡ nodes_to (graph_in n nodes.now) (ups ex.now) (ups ey.now) (length ex.now)) }
 {
     let mut map: [u32; nodes::MAP] = [0; nodes::MAP];
     nodes::enter_all(&mut map, nodes, n);
@@ -323,7 +324,7 @@ fn look_up_many(nodes: &[i32], n: usize, ex: &[i32], ey: &[i32], ends: &mut [u32
 fn look_up(nodes: &[i32], n: usize, ex: &[i32], ey: &[i32], ends: &mut [u32]) -> bool
     requires n_bound { (n ≤ NODES) × (GRAPH_WORDS ≤ length nodes.now) × (length ey.now ≡ length ex.now) × (length ex.now ≤ length ends.old) }
     requires apart { Apart (whole nodes.now).xs (whole nodes.now).ys n }
-    ensures { (result ≡ known_to (graph_in n nodes) (ups (old ex)) (ups (old ey)) (length (old ex))) × (take (length (old ex)) (new ends) ≡ nodes_to (graph_in n nodes) (ups (old ex)) (ups (old ey)) (length (old ex))) }
+    ensures { (result ≡ known_to (graph_in n nodes.now) (ups ex.now) (ups ey.now) (length ex.now)) × (take (length ex.now) ends.new ≡ nodes_to (graph_in n nodes.now) (ups ex.now) (ups ey.now) (length ex.now)) }
 {
     if FEW < ex.len() {
         return look_up_many(nodes, n, ex, ey, ends);
@@ -336,7 +337,7 @@ fn look_up(nodes: &[i32], n: usize, ex: &[i32], ey: &[i32], ends: &mut [u32]) ->
 fn keep(kinds: &[u8], dirs: &[u8], k: usize, kept: &mut [u32], m: usize) -> usize
     requires k_in_bounds { (k < length kinds.now) × (k < length dirs.now) × (k < NODES) × (m < length kept.old) }
     requires kept_value { take m kept.old ≡ pruned kinds.now dirs.now k }
-    ensures { (result ≤ m + 1) × (take result (new kept) ≡ pruned (old kinds) (old dirs) (k + 1)) }
+    ensures { (result ≤ m + 1) × (take result kept.new ≡ pruned kinds.now dirs.now (k + 1)) }
 {
     if is_kept(kinds, dirs, k) {
         kept[m] = k as u32;
@@ -348,7 +349,7 @@ fn keep(kinds: &[u8], dirs: &[u8], k: usize, kept: &mut [u32], m: usize) -> usiz
 // The nodes of a line of m nodes without those that it runs straight through: the first entries of `kept`, as many as it returns.
 pub fn iter_pruned(kinds: &[u8], dirs: &[u8], m: usize, kept: &mut [u32]) -> usize
     requires { (m ≤ length kinds.now) × (m ≤ length dirs.now) × (m ≤ NODES) × (m ≤ length kept.old) }
-    ensures { (result ≤ m) × (take result (new kept) ≡ pruned (old kinds) (old dirs) m) }
+    ensures { (result ≤ m) × (take result kept.new ≡ pruned kinds.now dirs.now m) }
 {
     let mut r: usize = 0;
     let mut k: usize = 0;
@@ -362,7 +363,7 @@ pub fn iter_pruned(kinds: &[u8], dirs: &[u8], m: usize, kept: &mut [u32]) -> usi
 // Blanks the cells of n nodes, and the tree over them, before a search.
 fn blank(cells: &mut [u64], tree: &mut [u64], n: usize)
     requires { (0 < n) × (n ≤ NODES) × (n * WIDTH ≤ length cells.old) × (2 * n ≤ length tree.old) }
-    ensures { Blank n (new cells) (new tree) }
+    ensures { Blank n cells.new tree.new }
 {
     columns::fill(cells, n, astar::SCORE, queue::UNSET);
     columns::fill(cells, n, astar::ESTIMATE, queue::UNSET);
@@ -385,7 +386,7 @@ pub fn find_line(
     requires ready { Ready (graph n nodes.now) × (GRAPH_WORDS ≤ length nodes.now) }
     requires start_lt_n { (start < n) × Below n (take k list.old) }
     requires room { Room n k cells.old tree.old list.old }
-    ensures { (result ≤ length (new list)) × (drop result (new list) ≡ lineS (graph_in n nodes) (take k (old list)) start) }
+    ensures { (result ≤ length list.new) × (drop result list.new ≡ lineS (graph_in n nodes.now) (take k list.old) start) }
 {
     blank(cells, tree, n);
     let m = gather(nodes, n, k, cells, list);
@@ -410,7 +411,7 @@ pub fn write_line(
     dirs: &mut [u8],
 )
     requires { (n ≤ NODES) × (GRAPH_WORDS ≤ length nodes.now) × Below n line.now }
-    ensures { Written (graph_in n nodes).xs (graph_in n nodes).ys (graph_in n nodes).links (old line) (ups (new lx)) (ups (new ly)) (new kinds) (new dirs) }
+    ensures { Written (graph_in n nodes.now).xs (graph_in n nodes.now).ys (graph_in n nodes.now).links line.now (ups lx.new) (ups ly.new) kinds.new dirs.new }
 {
     write_places(nodes, n, line, lx);
     write_places(&nodes[4096..], n, line, ly);
@@ -419,7 +420,7 @@ pub fn write_line(
 }
 
 // 01's number, and how many nodes the line has.
-#[derive(Drop)]
+#[derive(Clone, Copy)]
 pub struct Answer {
     pub number: u32,
     pub nodes: usize,
@@ -457,7 +458,7 @@ pub fn find_between(
     requires ready { (0 < n → Ready (graph n nodes.now)) × (GRAPH_WORDS ≤ length nodes.now) }
     requires ey_len { length ey.now ≡ length ex.now }
     requires room { Room n (length ex.now) cells.old tree.old list.old }
-    ensures { Answered (graph_in n nodes) x y (ups (old ex)) (ups (old ey)) result.number result.nodes (new list) }
+    ensures { Answered (graph_in n nodes.now) x y (ups ex.now) (ups ey.now) result.number result.nodes list.new }
 {
     let start = nodes::find_node(nodes, n, x, y);
     if start >= n {

@@ -1,7 +1,8 @@
 // The priority queue of the search: one entry a node, behind one contract (pop the first least entry; replace an entry).
 // `tree` is a tournament of the entries' keys, so that neither looks at all entries.
+#![tactic(auto)]
+
 ghost use Rattle.std.specs.Prelude.{◌≡◌, ℕ, ◌+◌, ◌*◌, ◌≤◌, ◌<◌, min, length, get_or, set};
-ghost use Rattle.fixed.specs.Seen.{old, new};
 ghost use Rattle.columns.specs.Columns.{Only};
 ghost use Rattle.queue.specs.Columns.{WIDTH, SUM, sums};
 ghost use Rattle.queue.specs.Queue.{NODES, top as topS, popped, after_pop};
@@ -17,7 +18,7 @@ pub const UNSET: u64 = 18446744073709551615;
 // Sums from 2^51 on have no key.
 const TALL: u64 = 2251799813685248;
 
-#[derive(Drop)]
+#[derive(Clone, Copy)]
 pub enum Popped {
     At(usize),
     Empty,
@@ -26,7 +27,7 @@ pub enum Popped {
 // The first least entry from lo to before hi.
 fn least_in(cells: &[u64], n: usize, lo: usize, hi: usize) -> usize
     requires { (lo < hi) × (hi ≤ n) × (n * WIDTH ≤ length cells.now) }
-    ensures { LeastIn (sums n (old cells)) lo hi result }
+    ensures { LeastIn (sums n cells.now) lo hi result }
 {
     let mut best = lo;
     let mut i = lo + 1;
@@ -44,7 +45,7 @@ fn least_in(cells: &[u64], n: usize, lo: usize, hi: usize) -> usize
 // The first least entry of all: the tree's least key tells it, unless no sum has a key.
 fn top(cells: &[u64], tree: &[u64], n: usize) -> usize
     requires { Indexed (sums n cells.now) tree.now × (n * WIDTH ≤ length cells.now) }
-    ensures { (result ≡ topS (sums n (old cells))) × (result < n) }
+    ensures { (result ≡ topS (sums n cells.now)) × (result < n) }
 {
     let x = tree[1];
     if x < UNSET {
@@ -74,7 +75,7 @@ fn lesser(a: u64, b: u64) -> u64
 // Replaces the key of the node v of n, and goes up.
 fn raise(tree: &mut [u64], n: usize, v: usize, x: u64)
     requires { Tree n tree.old × (v < n) × (n ≤ NODES) }
-    ensures { Tree n (new tree) × ((j : ℕ) → n ≤ j → get_or (new tree) j 0 ≡ get_or (set (old tree) (n + v) x) j 0) }
+    ensures { Tree n tree.new × ((j : ℕ) → n ≤ j → get_or tree.new j 0 ≡ get_or (set tree.old (n + v) x) j 0) }
 {
     let mut k = n + v;
     let mut best = x;
@@ -89,7 +90,7 @@ fn raise(tree: &mut [u64], n: usize, v: usize, x: u64)
 // Replaces the entry of the node v.
 pub fn put(cells: &mut [u64], tree: &mut [u64], n: usize, v: usize, f: u64)
     requires { Indexed (sums n cells.old) tree.old × (v < n) × (n * WIDTH ≤ length cells.old) }
-    ensures { (sums n (new cells) ≡ set (sums n (old cells)) v f) × Only n SUM (old cells) (new cells) × Indexed (sums n (new cells)) (new tree) }
+    ensures { (sums n cells.new ≡ set (sums n cells.old) v f) × Only n SUM cells.old cells.new × Indexed (sums n cells.new) tree.new }
 {
     columns::put(cells, n, SUM, v, f);
     raise(tree, n, v, key(f, v));
@@ -98,8 +99,8 @@ pub fn put(cells: &mut [u64], tree: &mut [u64], n: usize, v: usize, f: u64)
 // Takes the first least entry out.
 pub fn pop_least(cells: &mut [u64], tree: &mut [u64], n: usize) -> Popped
     requires { Indexed (sums n cells.old) tree.old × (n * WIDTH ≤ length cells.old) }
-    ensures value { result ≡ popped (sums n (old cells)) }
-    ensures cells_value { (sums n (new cells) ≡ after_pop (sums n (old cells))) × Only n SUM (old cells) (new cells) × Indexed (sums n (new cells)) (new tree) }
+    ensures value { result ≡ popped (sums n cells.old) }
+    ensures cells_value { (sums n cells.new ≡ after_pop (sums n cells.old)) × Only n SUM cells.old cells.new × Indexed (sums n cells.new) tree.new }
 {
     let r = top(cells, tree, n);
     let f = columns::get(cells, n, SUM, r);

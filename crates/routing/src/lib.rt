@@ -1,7 +1,8 @@
 // The wires of a net: the root wire between the root pair of its endpoints, and a branch from each other endpoint. A line is `path`, a path of the graph of
 // `order` nodes in the list `nodes`.
+#![tactic(auto)]
+
 ghost use Rattle.std.specs.Prelude.{◌≡◌, ◌+◌, ◌-◌, ◌*◌, ◌<◌, ◌≤◌, length, eqb};
-ghost use Rattle.fixed.specs.Seen.{old, new};
 ghost use Rattle.vertex.specs.Pages.{carried};
 ghost use Rattle.wire.specs.Lines.{PathOn, path_in};
 ghost use Rattle.wire.specs.Wires.{ends as endsOf, Room, wires_in, wires_out};
@@ -11,7 +12,7 @@ ghost use Rattle.routing.specs.Roots.{slant as slantAt, slant_of, root_pair};
 use vertex::Junction;
 
 // A wire that was tried: 0 or why it is refused, and the numbers of vertices and ends then.
-#[derive(Drop)]
+#[derive(Clone, Copy)]
 pub struct Step {
     pub number: u32,
     pub n: usize,
@@ -21,7 +22,7 @@ pub struct Step {
 // The size of |dx| - |dy| of the endpoints a and b.
 fn slant(xs: &[u32], ys: &[u32], a: usize, b: usize) -> u32
     requires { (a < length xs.now) × (b < length xs.now) × (length ys.now ≡ length xs.now) }
-    ensures { result ≡ slantAt (old xs) (old ys) a b }
+    ensures { result ≡ slantAt xs.now ys.now a b }
 {
     let dx = fixed::gap(xs[a], xs[b]);
     let dy = fixed::gap(ys[a], ys[b]);
@@ -31,7 +32,7 @@ fn slant(xs: &[u32], ys: &[u32], a: usize, b: usize) -> u32
 // The size of |dx| - |dy| of the pair p.
 fn slant_of(xs: &[u32], ys: &[u32], p: usize) -> u32
     requires { (0 < length xs.now) × (length ys.now ≡ length xs.now) × (p < length xs.now * length xs.now) }
-    ensures { result ≡ slant_of (old xs) (old ys) (length (old xs)) p }
+    ensures { result ≡ slant_of xs.now ys.now (length xs.now) p }
 {
     let n = xs.len();
     slant(xs, ys, p / n, p % n)
@@ -40,7 +41,7 @@ fn slant_of(xs: &[u32], ys: &[u32], p: usize) -> u32
 // The root pair of two endpoints or more.
 pub fn pick_root_path(xs: &[u32], ys: &[u32]) -> usize
     requires { (2 ≤ length xs.now) × (length xs.now ≤ 256) × (length ys.now ≡ length xs.now) }
-    ensures { result ≡ root_pair (old xs) (old ys) (length (old xs)) }
+    ensures { result ≡ root_pair xs.now ys.now (length xs.now) }
 {
     let n = xs.len();
     let mut best = 1;
@@ -79,7 +80,7 @@ fn line_wire(
     requires path_on { PathOn order nodes.now path.now }
     requires room { Room (length x.old) (length y.old) (length letters.old) }
     requires path_nonzero { (0 < length path.now) × (n ≤ 512) × (m ≤ 4096) × (16384 ≤ length ends.old) }
-    ensures { tried result.number (wires_out x y letters result.n ends result.m) ≡ line_wire (path_in order nodes path) root junction (wires_in x y letters n ends m) }
+    ensures { tried result.number (wires_out x.new y.new letters.new result.n ends.new result.m) ≡ line_wire (path_in order nodes.now path.now) root junction (wires_in x.old y.old letters.old n ends.old m) }
 {
     if path.len() == 1 {
         return Step { number: 14, n, m };
@@ -116,7 +117,7 @@ fn fallback_wire(
 ) -> Step
     requires room { Room (length x.old) (length y.old) (length letters.old) }
     requires n_bound { (n ≤ 512) × (m ≤ 4096) × (16384 ≤ length ends.old) }
-    ensures { tried result.number (wires_out x y letters result.n ends result.m) ≡ fallback_wire sx sy ex ey along junction (wires_in x y letters n ends m) }
+    ensures { tried result.number (wires_out x.new y.new letters.new result.n ends.new result.m) ≡ fallback_wire sx sy ex ey along junction (wires_in x.old y.old letters.old n ends.old m) }
 {
     let v = wire::fallback_vertices(sx, sy, ex, ey, along);
     if !fits(n, v, m, 2) {
@@ -154,7 +155,7 @@ pub fn route_wire(
     requires path_on { PathOn order nodes.now path.now }
     requires room { Room (length x.old) (length y.old) (length letters.old) }
     requires n_bound { (n ≤ 512) × (m ≤ 4096) × (16384 ≤ length ends.old) }
-    ensures { tried result.number (wires_out x y letters result.n ends result.m) ≡ route_wire (path_in order nodes path) sx sy ex ey along root junction (wires_in x y letters n ends m) }
+    ensures { tried result.number (wires_out x.new y.new letters.new result.n ends.new result.m) ≡ route_wire (path_in order nodes.now path.now) sx sy ex ey along root junction (wires_in x.old y.old letters.old n ends.old m) }
 {
     if path.len() == 0 {
         return fallback_wire(sx, sy, ex, ey, along, junction, x, y, letters, n, ends, m);
@@ -176,7 +177,7 @@ fn joined_end(
 ) -> usize
     requires path_on { PathOn order nodes.now path.now }
     requires m_nonzero { (0 < m) × (m ≤ 4096) × (16384 ≤ length ends.now) }
-    ensures { (result ≡ joined_end (path_in order nodes path) sx sy (endsOf (old ends) m)) × (result < m) }
+    ensures { (result ≡ joined_end (path_in order nodes.now path.now) sx sy (endsOf ends.now m)) × (result < m) }
 {
     if path.len() == 0 {
         return wire::nearest_end(ends, m, sx, sy);
@@ -200,7 +201,7 @@ fn junction_of(kind: u32) -> Junction
 // Writes the junction j.
 fn put_junction(joins: &mut [u32], j: usize, holder: u32, joiner: u32, kind: u32)
     requires { (j < 256) × (768 ≤ length joins.old) }
-    ensures { new joins ≡ put_junction (old joins) j holder joiner kind }
+    ensures { joins.new ≡ put_junction joins.old j holder joiner kind }
 {
     joins[3 * j] = holder;
     joins[3 * j + 1] = joiner;
@@ -228,8 +229,8 @@ pub fn route_branch(
     requires room { Room (length x.old) (length y.old) (length letters.old) }
     requires n_bound { (n ≤ 512) × (0 < m) × (m ≤ 4096) × (16384 ≤ length ends.old) }
     requires j_bound { (j < 256) × (768 ≤ length joins.old) }
-    ensures m_value { tried result.number (wires_out x y letters result.n ends result.m) ≡ route_branch (path_in order nodes path) sx sy along (wires_in x y letters n ends m) }
-    ensures joins_value { new joins ≡ join_branch (path_in order nodes path) sx sy along (wires_in x y letters n ends m) (old joins) j }
+    ensures m_value { tried result.number (wires_out x.new y.new letters.new result.n ends.new result.m) ≡ route_branch (path_in order nodes.now path.now) sx sy along (wires_in x.old y.old letters.old n ends.old m) }
+    ensures joins_value { joins.new ≡ join_branch (path_in order nodes.now path.now) sx sy along (wires_in x.old y.old letters.old n ends.old m) joins.old j }
 {
     let e = joined_end(nodes, order, path, sx, sy, ends, m);
     let ex = ends[4 * e];

@@ -1,4 +1,6 @@
 // Rows of words in a lent slice: copies, searches by a row's first word, and areas, which are a count and then its rows.
+#![tactic(auto)]
+
 ghost use Rattle.std.specs.Prelude.{◌≡◌, ◌+◌, ◌*◌, ◌≤◌, ◌<◌, length, get_or, take, drop};
 ghost use Rattle.rows.specs.Rows.{pasted, place, is_in, keys, count, put_last, taken_out, put_in};
 

@@ -1,6 +1,7 @@
 // Scans over the axis lists, and the graph that they build.
+#![tactic(auto)]
+
 ghost use Rattle.std.specs.Prelude.{◌≡◌, ◌+◌, ◌*◌, ◌<◌, ◌≤◌, length};
-ghost use Rattle.fixed.specs.Seen.{old, new};
 ghost use Rattle.fixed.specs.Constants.{BOXES, COORDS, PADDED_WORDS, ANCHOR_WORDS};
 ghost use Rattle.fixed.specs.Up.{ups};
 ghost use Rattle.sightline.specs.Sight.{Rising};
@@ -40,7 +41,7 @@ fn direction(d: usize) -> Direction
 // The coordinate of the step k from the index i.
 fn along(axis: &[i32], d: usize, i: usize, k: usize) -> u32
     requires { (i < length axis.now) × (k < room d i (length axis.now)) }
-    ensures { result ≡ along (ups (old axis)) d i k }
+    ensures { result ≡ along (ups axis.now) d i k }
 {
     if d % 2 == 1 {
         return fixed::at(axis, i + (k + 1));
@@ -60,8 +61,8 @@ fn place_on(
     requires in_bounds { GRAPH_WORDS ≤ length nodes.old }
     requires n_bound { n ≤ NODES }
     requires keyed { Keyed map.old nodes.old n }
-    ensures met { Met result.index result.count (find_on (graph_in n nodes) d across c) (graph_out result.count nodes) (place_on (graph_in n nodes) d across c) }
-    ensures keyed_2 { Keyed (new map) (new nodes) result.count }
+    ensures met { Met result.index result.count (find_on (graph_in n nodes.old) d across c) (graph_out result.count nodes.new) (place_on (graph_in n nodes.old) d across c) }
+    ensures keyed_2 { Keyed map.new nodes.new result.count }
 {
     if d < 2 {
         return nodes::place(nodes, map, n, c, across, ALL);
@@ -85,8 +86,8 @@ fn step(
     requires n_bound { (n ≤ NODES) × (prev < n) × (d < 4) }
     requires from_in_bounds { (from < length axis.now) × (k < room d from (length axis.now)) }
     requires keyed { Keyed map.old nodes.old n }
-    ensures met { Met result.index result.count (next (way d across (old axis) from) (graph_in n nodes) k) (graph_out result.count nodes) (step (way d across (old axis) from) (graph_in n nodes) prev k) }
-    ensures keyed_2 { Keyed (new map) (new nodes) result.count }
+    ensures met { Met result.index result.count (next (way d across axis.now from) (graph_in n nodes.old) k) (graph_out result.count nodes.new) (step (way d across axis.now from) (graph_in n nodes.old) prev k) }
+    ensures keyed_2 { Keyed map.new nodes.new result.count }
 {
     let c = along(axis, d, from, k);
     let s = place_on(nodes, map, n, d, across, c);
@@ -121,8 +122,8 @@ fn walk(
     requires n_bound { (n ≤ NODES) × (start < n) × (d < 4) }
     requires from_in_bounds { (from < length axis.now) × (m ≤ room d from (length axis.now)) }
     requires keyed { Keyed map.old nodes.old n }
-    ensures built { Built result (graph_out result nodes) (walk (way d across (old axis) from) (graph_in n nodes) start 0 m) }
-    ensures keyed_2 { Keyed (new map) (new nodes) result }
+    ensures built { Built result (graph_out result nodes.new) (walk (way d across axis.now from) (graph_in n nodes.old) start 0 m) }
+    ensures keyed_2 { Keyed map.new nodes.new result }
 {
     let mut count = n;
     let mut prev = start;
@@ -158,7 +159,7 @@ fn reach<'a>(
     requires s_bound { (s < 2) × (b ≤ BOXES) × (PADDED_WORDS ≤ length boxes.now) }
     requires rising { Rising (ups (follow d ax.now ay.now)) }
     requires d_bound { (d < 4) × (i < length (follow d ax.now ay.now)) }
-    ensures { result ≡ reach (line (old boxes) b s across ignore) anchor d (ups (follow d (old ax) (old ay))) i }
+    ensures { result ≡ reach (line boxes.now b s across ignore) anchor d (ups (follow d ax.now ay.now)) i }
 {
     let part = sightline::beyond(ax, ay, direction(d), i);
     if d % 2 == 1 {
@@ -199,7 +200,7 @@ fn extent<'a>(
 ) -> usize
     requires paged { Paged boxes.now b ax.now ay.now }
     requires d_bound { (d < 4) × (i < length ax.now) × (j < length ay.now) }
-    ensures { result ≡ extent (page (old boxes) b (old ax) (old ay)) (record { x = x; y = y; dirs = dirs; box = ignore }) i j d }
+    ensures { result ≡ extent (page boxes.now b ax.now ay.now) (record { x = x; y = y; dirs = dirs; box = ignore }) i j d }
 {
     if has(dirs, d) {
         if d < 2 {
@@ -232,8 +233,8 @@ fn toward<'a>(
     requires in_bounds { GRAPH_WORDS ≤ length nodes.old }
     requires n_bound { (n ≤ NODES) × (node < n) × (d < 4) × (i < length ax.now) × (j < length ay.now) }
     requires keyed { Keyed map.old nodes.old n }
-    ensures built { Built result (graph_out result nodes) (toward (page (old boxes) b (old ax) (old ay)) (record { x = x; y = y; dirs = dirs; box = ignore }) node i j d (graph_in n nodes)) }
-    ensures keyed_2 { Keyed (new map) (new nodes) result }
+    ensures built { Built result (graph_out result nodes.new) (toward (page boxes.now b ax.now ay.now) (record { x = x; y = y; dirs = dirs; box = ignore }) node i j d (graph_in n nodes.old)) }
+    ensures keyed_2 { Keyed map.new nodes.new result }
 {
     let m = extent(boxes, b, ax, ay, x, y, dirs, ignore, i, j, d);
     if d < 2 {
@@ -263,8 +264,8 @@ fn scans<'a>(
     requires in_bounds { GRAPH_WORDS ≤ length nodes.old }
     requires n_bound { (n ≤ NODES) × (node < n) × (i < length ax.now) × (j < length ay.now) }
     requires keyed { Keyed map.old nodes.old n }
-    ensures built { Built result (graph_out result nodes) (scans (page (old boxes) b (old ax) (old ay)) (record { x = x; y = y; dirs = dirs; box = ignore }) node i j (graph_in n nodes)) }
-    ensures keyed_2 { Keyed (new map) (new nodes) result }
+    ensures built { Built result (graph_out result nodes.new) (scans (page boxes.now b ax.now ay.now) (record { x = x; y = y; dirs = dirs; box = ignore }) node i j (graph_in n nodes.old)) }
+    ensures keyed_2 { Keyed map.new nodes.new result }
 {
     let mut count = n;
     let mut d = 0;
@@ -298,8 +299,8 @@ fn scan_anchor<'a>(
     requires in_bounds { GRAPH_WORDS ≤ length nodes.old }
     requires n_bound { n ≤ NODES }
     requires keyed { Keyed map.old nodes.old n }
-    ensures built { Built result (graph_out result nodes) (scan_anchor (page (old boxes) b (old ax) (old ay)) (record { x = x; y = y; dirs = dirs; box = ignore }) (graph_in n nodes)) }
-    ensures keyed_2 { Keyed (new map) (new nodes) result }
+    ensures built { Built result (graph_out result nodes.new) (scan_anchor (page boxes.now b ax.now ay.now) (record { x = x; y = y; dirs = dirs; box = ignore }) (graph_in n nodes.old)) }
+    ensures keyed_2 { Keyed map.new nodes.new result }
 {
     let node = nodes::look_up(map, nodes, n, x, y);
     let i = axis::index(ax, x);
@@ -321,7 +322,7 @@ fn scan_anchor<'a>(
 // The mark of the node that the anchor k makes.
 fn mark(anchors: &[i32], explicit: usize, a: usize, k: usize) -> u32
     requires { (k < a) × (a ≤ COORDS) × (ANCHOR_WORDS ≤ length anchors.now) }
-    ensures { result ≡ mark (column (COORDS * 2) a (old anchors)) explicit k }
+    ensures { result ≡ mark (column (COORDS * 2) a anchors.now) explicit k }
 {
     let dirs = fixed::word(anchors, fixed::ANCHOR_DIRS, a, k);
     if k < explicit {
@@ -349,8 +350,8 @@ fn scan_at<'a>(
     requires in_bounds { GRAPH_WORDS ≤ length nodes.old }
     requires n_bound { (n ≤ NODES) × (k < a) }
     requires keyed { Keyed map.old nodes.old n }
-    ensures built { Built result (graph_out result nodes) (scan_at (page (old boxes) b (old ax) (old ay)) (anchors_of (old anchors) explicit a) k (graph_in n nodes)) }
-    ensures keyed_2 { Keyed (new map) (new nodes) result }
+    ensures built { Built result (graph_out result nodes.new) (scan_at (page boxes.now b ax.now ay.now) (anchors_of anchors.now explicit a) k (graph_in n nodes.old)) }
+    ensures keyed_2 { Keyed map.new nodes.new result }
 {
     let x = fixed::word(anchors, 0, a, k);
     let y = fixed::word(anchors, fixed::ANCHOR_Y, a, k);
@@ -370,8 +371,8 @@ pub fn build_nodes(
     requires a_bound { (a ≤ COORDS) × (ANCHOR_WORDS ≤ length anchors.now) }
     requires in_bounds { GRAPH_WORDS ≤ length nodes.old }
     requires keyed { Keyed map.old nodes.old 0 }
-    ensures built { Built result (graph_out result nodes) (build_nodes (anchors_of (old anchors) explicit a)) }
-    ensures keyed_2 { Keyed (new map) (new nodes) result }
+    ensures built { Built result (graph_out result nodes.new) (build_nodes (anchors_of anchors.now explicit a)) }
+    ensures keyed_2 { Keyed map.new nodes.new result }
 {
     let mut count = 0;
     let mut k = 0;
@@ -405,7 +406,7 @@ fn build_by<'a>(
     requires a_bound { (a ≤ COORDS) × (ANCHOR_WORDS ≤ length anchors.now) }
     requires in_bounds { GRAPH_WORDS ≤ length nodes.old }
     requires keyed { Keyed map.old nodes.old 0 }
-    ensures { Built result (graph_out result nodes) (build (page (old boxes) b (old ax) (old ay)) (anchors_of (old anchors) explicit a)) }
+    ensures { Built result (graph_out result nodes.new) (build (page boxes.now b ax.now ay.now) (anchors_of anchors.now explicit a)) }
 {
     let mut count = build_nodes(anchors, explicit, a, nodes, map);
     if nodes::NODES < count {
@@ -436,7 +437,7 @@ pub fn build<'a>(
     requires paged { Paged boxes.now b ax.now ay.now }
     requires a_bound { (a ≤ COORDS) × (ANCHOR_WORDS ≤ length anchors.now) }
     requires in_bounds { GRAPH_WORDS ≤ length nodes.old }
-    ensures { Built result (graph_out result nodes) (build (page (old boxes) b (old ax) (old ay)) (anchors_of (old anchors) explicit a)) }
+    ensures { Built result (graph_out result nodes.new) (build (page boxes.now b ax.now ay.now) (anchors_of anchors.now explicit a)) }
 {
     let mut map: [u32; nodes::MAP] = [0; nodes::MAP];
     build_by(boxes, b, ax, ay, anchors, explicit, a, nodes, &mut map)

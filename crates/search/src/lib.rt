@@ -1,8 +1,9 @@
+#![tactic(auto)]
+
 use path_finding::Answer;
 
 // A search on a built graph, with its outputs.
 ghost use Rattle.std.specs.Prelude.{◌≡◌, ◌≤◌, ◌<◌, length};
-ghost use Rattle.fixed.specs.Seen.{old, new};
 ghost use Rattle.fixed.specs.Up.{ups};
 ghost use Rattle.nodes.specs.Columns.{GRAPH_WORDS, graph, graph_in};
 ghost use Rattle.astar.specs.Reached.{Ready};
@@ -28,7 +29,7 @@ pub fn find_path(
     requires ready { (0 < n → Ready (graph n nodes.now)) × (GRAPH_WORDS ≤ length nodes.now) }
     requires ended { Ended ex.now ey.now }
     requires room { Room n (length ex.now) cells.old tree.old list.old }
-    ensures { Searched (graph_in n nodes) x y (ups (old ex)) (ups (old ey)) result.number result.nodes (ups (new lx)) (ups (new ly)) (new kinds) (new dirs) }
+    ensures { Searched (graph_in n nodes.now) x y (ups ex.now) (ups ey.now) result.number result.nodes (ups lx.new) (ups ly.new) kinds.new dirs.new }
 {
     let a = path_finding::find_between(nodes, n, x, y, ex, ey, cells, tree, list);
     let at = list.len() - a.nodes;

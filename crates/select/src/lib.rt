@@ -1,4 +1,6 @@
 // The records of a desk as the rows that a page is made of.
+#![tactic(auto)]
+
 ghost use Rattle.std.specs.Prelude.{◌≡◌, true, ◌≤◌, length};
 ghost use Rattle.desk.specs.Sizes.{DESK};
 ghost use Rattle.book.specs.Book.{list, valid};

@@ -1,5 +1,7 @@
 // Shows sightlines at work: a box from x = 100 units is padded to 90, an anchor stands at 0, and each coordinate to its right is told to be clear
 // or blocked.
+#![tactic(auto)]
+
 ghost use Rattle.std.specs.Prelude.{◌≤◌, ◌<◌, length};
 ghost use Rattle.fixed.specs.Constants.{PADDED_WORDS};
 ghost use Rattle.sightline.specs.Boxes.{Fields};

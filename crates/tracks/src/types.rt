@@ -1,6 +1,6 @@
 // How a pair of vertices may move, and how far it reaches.
 
-#[derive(Drop)]
+#[derive(Clone, Copy)]
 pub enum Movement {
     Skipped,
     Free,
@@ -9,7 +9,7 @@ pub enum Movement {
 }
 
 // A run along a corridor.
-#[derive(Drop)]
+#[derive(Clone, Copy)]
 pub struct Extent {
     pub low: u32,
     pub high: u32,

@@ -1,4 +1,6 @@
 // Reads the fixed list of answers: lines of fields parted by tabs, with sections of counted bytes between them.
+#![tactic(auto)]
+
 ghost use Rattle.std.specs.Prelude.{◌≡◌, ◌≤◌, length};
 
 // The size of a list at most.
@@ -12,7 +14,7 @@ pub fn room() -> [u8; LIST]
 }
 
 // A field: its number's word (`decimals::BASE` above the number), or 0 where it is none, and the place behind it and its separator.
-#[derive(Drop)]
+#[derive(Clone, Copy)]
 pub struct Entry {
     pub word: u64,
     pub next: usize,
@@ -90,7 +92,7 @@ pub fn next_line(list: &[u8], at: usize) -> usize
 }
 
 // Where a comparison stands: whether all fields were as they should be, and the next one's place.
-#[derive(Drop)]
+#[derive(Clone, Copy)]
 pub struct Match {
     pub ok: bool,
     pub next: usize,

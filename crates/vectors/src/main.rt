@@ -1,5 +1,7 @@
 // Replays the oracle's fixed list of pages, pages.txt, and compares what the crates answer with it, section by section.
 // docs/ORACLE.md has the list's form.
+#![tactic(auto)]
+
 mod corridor;
 mod dump;
 mod page;

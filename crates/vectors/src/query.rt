@@ -79,7 +79,7 @@ pub fn answer_is(
 }
 
 // A search's header: pruned (1) or not (0), the start, the count of its ends, and the first end's place in the list.
-#[derive(Drop)]
+#[derive(Clone, Copy)]
 pub struct Query {
     pub prune: u32,
     pub x: i32,

@@ -32,7 +32,7 @@ pub const PASSED: usize = 14;
 pub const WRONG: usize = 15;
 
 // What a comparison came to: whether all was as it should be, and how many entries were compared.
-#[derive(Drop)]
+#[derive(Clone, Copy)]
 pub struct Verdict {
     pub ok: bool,
     pub entries: usize,

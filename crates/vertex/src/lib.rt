@@ -1,18 +1,20 @@
 // The vertices of a page's wires: what a vertex is, the letter of its kind, and how the lent lists hold it.
+#![tactic(auto)]
+
 ghost use Rattle.std.specs.Prelude.{◌≡◌, ◌<◌, length, set};
 ghost use Rattle.fixed.specs.Up.{ups};
 ghost use Rattle.vertex.specs.Kinds.{kind_of, letter_of, start};
 ghost use Rattle.vertex.specs.Vertices.{vertex_at};
 
 // What a wire's end carries: no junction, or its kind.
-#[derive(Drop)]
+#[derive(Clone, Copy)]
 pub enum Junction {
     None,
     Corner,
     LineSegment,
 }
 
-#[derive(Drop)]
+#[derive(Clone, Copy)]
 pub enum VertexKind {
     WireStart { is_root: bool },
     Dummy,
@@ -21,7 +23,7 @@ pub enum VertexKind {
 }
 
 // A vertex; its place is counted from -2^31.
-#[derive(Drop)]
+#[derive(Clone, Copy)]
 pub struct Vertex {
     pub x: u32,
     pub y: u32,

@@ -1,7 +1,6 @@
 -- 01, 'Search': a line is its nodes from start to end: place, kind (the letter S, N or E), direction onward. Here as columns, of which the first
 -- `count` entries are the line.
 use Rattle.std.specs.Prelude.{Bool, ◌&&◌, cond, List, ℕ, zero, suc, ◌+◌, ◌-◌, ◌≤◌, eqb, ℤ, length, get_or}
-use Rattle.fixed.specs.Seen.{Lent, old}
 use Rattle.nodes.specs.Graph.{Graph, NODES}
 use Rattle.nodes.specs.Columns.{GRAPH_WORDS, graph}
 use Rattle.astar.specs.Reached.{Below}
@@ -53,5 +52,5 @@ pub record PathOn (n : ℕ) (nodes : List ℤ) (path : List ℕ) : Type 0 where
   pub below : Below n path
   pub most : length path ≤ NODES
 
-abbrev pub path_in : ℕ → Lent (List ℤ) → Lent (List ℕ) → Line
-path_in n nodes path = path_line n (old nodes) (old path)
+abbrev pub path_in : ℕ → List ℤ → List ℕ → Line
+path_in n nodes path = path_line n nodes path

@@ -1,6 +1,5 @@
 -- 01, 'Nets' (`push_vertices`, `push_fallback_vertices`): what one wire adds to the page's vertices and to its net's ends.
 use Rattle.std.specs.Prelude.{Bool, true, false, ◌&&◌, ◌||◌, not, cond, List, ℕ, zero, suc, ◌+◌, ◌-◌, ◌*◌, ◌%◌, ◌<◌, ◌≤◌, eqb, get_or, set, ℤ}
-use Rattle.fixed.specs.Seen.{Lent, old, new}
 use Rattle.fixed.specs.Up.{ups}
 use Rattle.fixed.specs.Steps.{dummy}
 use Rattle.vertex.specs.Kinds.{letter_of}
@@ -139,14 +138,14 @@ pub record Room (x y kinds : ℕ) : Type 0 where
 
 -- ---- what a clause sees of the lent lists of a page, and of a net's ends
 
-abbrev pub vertices_in : Lent (List ℤ) → Lent (List ℤ) → Lent (List ℕ) → ℕ → Vertices
-vertices_in x y letters n = vertices (ups (old x)) (ups (old y)) (old letters) n
+abbrev pub vertices_in : List ℤ → List ℤ → List ℕ → ℕ → Vertices
+vertices_in x y letters n = vertices (ups x) (ups y) letters n
 
-abbrev pub vertices_out : Lent (List ℤ) → Lent (List ℤ) → Lent (List ℕ) → ℕ → Vertices
-vertices_out x y letters n = vertices (ups (new x)) (ups (new y)) (new letters) n
+abbrev pub vertices_out : List ℤ → List ℤ → List ℕ → ℕ → Vertices
+vertices_out x y letters n = vertices (ups x) (ups y) letters n
 
-abbrev pub wires_in : Lent (List ℤ) → Lent (List ℤ) → Lent (List ℕ) → ℕ → Lent (List ℕ) → ℕ → Wires
-wires_in x y letters n rows m = wires (vertices_in x y letters n) (ends (old rows) m)
+abbrev pub wires_in : List ℤ → List ℤ → List ℕ → ℕ → List ℕ → ℕ → Wires
+wires_in x y letters n rows m = wires (vertices_in x y letters n) (ends rows m)
 
-abbrev pub wires_out : Lent (List ℤ) → Lent (List ℤ) → Lent (List ℕ) → ℕ → Lent (List ℕ) → ℕ → Wires
-wires_out x y letters n rows m = wires (vertices_out x y letters n) (ends (new rows) m)
+abbrev pub wires_out : List ℤ → List ℤ → List ℕ → ℕ → List ℕ → ℕ → Wires
+wires_out x y letters n rows m = wires (vertices_out x y letters n) (ends rows m)

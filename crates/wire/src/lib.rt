@@ -1,7 +1,8 @@
 // One wire of a net: its vertices on the page, and the ends that it offers to later wires of the net. A line is a path of a graph: `nodes` is the graph's
 // list, `order` how many nodes it has, `path` the nodes from start to end.
+#![tactic(auto)]
+
 ghost use Rattle.std.specs.Prelude.{◌≡◌, ◌+◌, ◌-◌, ◌*◌, ◌<◌, ◌≤◌, length, get_or, false, cond};
-ghost use Rattle.fixed.specs.Seen.{old, new};
 ghost use Rattle.wire.specs.Ends.{put_end, stands, junction_end, end_distance, nearest_end};
 ghost use Rattle.wire.specs.Lines.{goes_on, kept_to, path_line, PathOn, path_in};
 ghost use Rattle.wire.specs.Wires.{ends as endsOf, wires, push_vertex, push_end, push_dummies, push_start, push_start_ends, Room, line_vertices, line_ends, corner_kind, push_corner, push_node, push_nodes, push_vertices, bent, fallback_vertices, push_bend, push_fallback_wire, push_fallback, vertices_in, vertices_out, wires_in, wires_out};
@@ -15,7 +16,7 @@ const LINE: u32 = 76;
 // Writes the end i.
 fn put_end(ends: &mut [u32], i: usize, px: u32, py: u32, vertex: u32, kind: u32)
     requires { (i < 4096) × (4 * i + 3 < length ends.old) }
-    ensures { new ends ≡ put_end (old ends) i px py vertex kind }
+    ensures { ends.new ≡ put_end ends.old i px py vertex kind }
 {
     ends[4 * i] = px;
     ends[4 * i + 1] = py;
@@ -26,7 +27,7 @@ fn put_end(ends: &mut [u32], i: usize, px: u32, py: u32, vertex: u32, kind: u32)
 // Whether the end i stands at the place.
 fn is_at(ends: &[u32], px: u32, py: u32, i: usize) -> bool
     requires { (i < 4096) × (4 * i + 3 < length ends.now) }
-    ensures { result ≡ stands (old ends) px py i }
+    ensures { result ≡ stands ends.now px py i }
 {
     (ends[4 * i] == px) & (ends[4 * i + 1] == py)
 }
@@ -34,7 +35,7 @@ fn is_at(ends: &[u32], px: u32, py: u32, i: usize) -> bool
 // The end that a junction at the place takes: the first there, the last of all if no other is there.
 pub fn junction_end(ends: &[u32], count: usize, px: u32, py: u32) -> usize
     requires { (0 < count) × (count ≤ 4096) × (4 * count ≤ length ends.now) }
-    ensures { (result ≡ junction_end (old ends) count px py) × (result < count) }
+    ensures { (result ≡ junction_end ends.now count px py) × (result < count) }
 {
     let last = count - 1;
     let mut i = 0;
@@ -50,7 +51,7 @@ pub fn junction_end(ends: &[u32], count: usize, px: u32, py: u32) -> usize
 // The Manhattan distance from the end i to the place.
 fn end_distance(ends: &[u32], px: u32, py: u32, i: usize) -> u64
     requires { (i < 4096) × (4 * i + 3 < length ends.now) }
-    ensures { result ≡ end_distance (old ends) px py i }
+    ensures { result ≡ end_distance ends.now px py i }
 {
     fixed::manhattan(ends[4 * i], ends[4 * i + 1], px, py)
 }
@@ -58,7 +59,7 @@ fn end_distance(ends: &[u32], px: u32, py: u32, i: usize) -> u64
 // The first end at the least Manhattan distance from the place.
 pub fn nearest_end(ends: &[u32], count: usize, px: u32, py: u32) -> usize
     requires { (0 < count) × (count ≤ 4096) × (4 * count ≤ length ends.now) }
-    ensures { (result ≡ nearest_end (old ends) px py count) × (result < count) }
+    ensures { (result ≡ nearest_end ends.now px py count) × (result < count) }
 {
     let mut best = 0;
     let mut i = 0;
@@ -75,7 +76,7 @@ pub fn nearest_end(ends: &[u32], count: usize, px: u32, py: u32) -> usize
 pub fn x_at(nodes: &[i32], order: usize, path: &[u32], k: usize) -> u32
     requires path_on { PathOn order nodes.now path.now }
     requires k_in_bounds { k < length path.now }
-    ensures { result ≡ get_or (path_in order nodes path).x k 0 }
+    ensures { result ≡ get_or (path_in order nodes.now path.now).x k 0 }
 {
     nodes::x_of(nodes, path[k] as usize)
 }
@@ -83,7 +84,7 @@ pub fn x_at(nodes: &[i32], order: usize, path: &[u32], k: usize) -> u32
 pub fn y_at(nodes: &[i32], order: usize, path: &[u32], k: usize) -> u32
     requires path_on { PathOn order nodes.now path.now }
     requires k_in_bounds { k < length path.now }
-    ensures { result ≡ get_or (path_in order nodes path).y k 0 }
+    ensures { result ≡ get_or (path_in order nodes.now path.now).y k 0 }
 {
     nodes::y_of(nodes, path[k] as usize)
 }
@@ -92,7 +93,7 @@ pub fn y_at(nodes: &[i32], order: usize, path: &[u32], k: usize) -> u32
 fn is_straight(nodes: &[i32], order: usize, path: &[u32], i: usize) -> bool
     requires path_on { PathOn order nodes.now path.now }
     requires i_nonzero { (0 < i) × (i < length path.now) }
-    ensures { result ≡ goes_on (path_in order nodes path) i }
+    ensures { result ≡ goes_on (path_in order nodes.now path.now) i }
 {
     let onward = path_finding::direction(nodes, order, path, i);
     let before = path_finding::direction(nodes, order, path, i - 1);
@@ -103,7 +104,7 @@ fn is_straight(nodes: &[i32], order: usize, path: &[u32], i: usize) -> bool
 pub fn line_vertices(nodes: &[i32], order: usize, path: &[u32]) -> usize
     requires path_on { PathOn order nodes.now path.now }
     requires path_nonzero { 0 < length path.now }
-    ensures { result ≡ line_vertices (path_in order nodes path) }
+    ensures { result ≡ line_vertices (path_in order nodes.now path.now) }
 {
     let mut total = 3;
     let mut i = 1;
@@ -127,7 +128,7 @@ fn push_vertex(
     kind: VertexKind,
 ) -> usize
     requires { (n < length x.old) × (n < length y.old) × (n < length letters.old) }
-    ensures { (result ≡ n + 1) × (vertices_out x y letters result ≡ push_vertex px py kind (vertices_in x y letters n)) }
+    ensures { (result ≡ n + 1) × (vertices_out x.new y.new letters.new result ≡ push_vertex px py kind (vertices_in x.old y.old letters.old n)) }
 {
     let vertex = Vertex { x: px, y: py, kind };
     vertex::put_vertex(x, y, letters, n, vertex);
@@ -147,7 +148,7 @@ fn push_dummies(
     requires path_on { PathOn order nodes.now path.now }
     requires in_bounds { 2 ≤ length path.now }
     requires n_in_bounds { (n + 1 < length x.old) × (n + 1 < length y.old) × (n + 1 < length letters.old) }
-    ensures { (result ≡ n + 2) × (vertices_out x y letters result ≡ push_dummies (path_in order nodes path) (vertices_in x y letters n)) }
+    ensures { (result ≡ n + 2) × (vertices_out x.new y.new letters.new result ≡ push_dummies (path_in order nodes.now path.now) (vertices_in x.old y.old letters.old n)) }
 {
     let px = x_at(nodes, order, path, 0);
     let py = y_at(nodes, order, path, 0);
@@ -171,7 +172,7 @@ fn push_start(
     requires path_on { PathOn order nodes.now path.now }
     requires in_bounds { 2 ≤ length path.now }
     requires n_in_bounds { (n + 2 < length x.old) × (n + 2 < length y.old) × (n + 2 < length letters.old) }
-    ensures { (result ≡ n + 3) × (vertices_out x y letters result ≡ push_start (path_in order nodes path) root (vertices_in x y letters n)) }
+    ensures { (result ≡ n + 3) × (vertices_out x.new y.new letters.new result ≡ push_start (path_in order nodes.now path.now) root (vertices_in x.old y.old letters.old n)) }
 {
     let px = x_at(nodes, order, path, 0);
     let py = y_at(nodes, order, path, 0);
@@ -183,7 +184,7 @@ fn push_start(
 // Adds an end behind m of them; their number then.
 fn push_end(ends: &mut [u32], m: usize, px: u32, py: u32, v: usize, kind: u32) -> usize
     requires { (m < 4096) × (4 * m + 3 < length ends.old) × (v < 4294967296) }
-    ensures { (result ≡ m + 1) × (endsOf (new ends) result ≡ push_end px py v kind (endsOf (old ends) m)) }
+    ensures { (result ≡ m + 1) × (endsOf ends.new result ≡ push_end px py v kind (endsOf ends.old m)) }
 {
     put_end(ends, m, px, py, v as u32, kind);
     m + 1
@@ -201,7 +202,7 @@ fn push_start_ends(
     requires path_on { PathOn order nodes.now path.now }
     requires path_nonzero { 0 < length path.now }
     requires m_bound { (m < 4095) × (4 * m + 7 < length ends.old) × (v < 512) }
-    ensures { (result ≡ m + 2) × (endsOf (new ends) result ≡ push_start_ends (path_in order nodes path) v (endsOf (old ends) m)) }
+    ensures { (result ≡ m + 2) × (endsOf ends.new result ≡ push_start_ends (path_in order nodes.now path.now) v (endsOf ends.old m)) }
 {
     let px = x_at(nodes, order, path, 0);
     let py = y_at(nodes, order, path, 0);
@@ -233,7 +234,7 @@ fn push_corner(
 ) -> usize
     requires n_bound { (n < 512) × (n < length x.old) × (n < length y.old) × (n < length letters.old) }
     requires m_bound { (m < 4096) × (4 * m + 3 < length ends.old) }
-    ensures { wires_out x y letters result ends (m + 1) ≡ push_corner px py kind (wires_in x y letters n ends m) }
+    ensures { wires_out x.new y.new letters.new result ends.new (m + 1) ≡ push_corner px py kind (wires_in x.old y.old letters.old n ends.old m) }
 {
     push_end(ends, m, px, py, n, CORNER);
     push_vertex(x, y, letters, n, px, py, kind)
@@ -258,7 +259,7 @@ fn push_node(
     requires room { Room (length x.old) (length y.old) (length letters.old) }
     requires n_nonzero { (0 < n) × (n ≤ 512) × (goes_on (path_line order nodes.now path.now) i ≡ false → n < 512) }
     requires m_bound { (m < 4096) × (4 * m + 3 < length ends.old) }
-    ensures { wires_out x y letters result ends (m + 1) ≡ push_node (path_in order nodes path) junction i (wires_in x y letters n ends m) }
+    ensures { wires_out x.new y.new letters.new result ends.new (m + 1) ≡ push_node (path_in order nodes.now path.now) junction i (wires_in x.old y.old letters.old n ends.old m) }
 {
     let px = x_at(nodes, order, path, i);
     let py = y_at(nodes, order, path, i);
@@ -288,7 +289,7 @@ fn push_nodes(
     requires room { Room (length x.old) (length y.old) (length letters.old) }
     requires n_nonzero { (0 < n) × (n + kept_to (path_line order nodes.now path.now) (length path.now - 1) ≤ 512) }
     requires path_bound { (m + (length path.now - 1) ≤ 4096) × (16384 ≤ length ends.old) }
-    ensures { wires (vertices_out x y letters result) (endsOf (new ends) (m + (length (old path) - 1))) ≡ push_nodes (path_in order nodes path) junction (length (old path) - 1) (wires_in x y letters n ends m) }
+    ensures { wires (vertices_out x.new y.new letters.new result) (endsOf ends.new (m + (length path.now - 1))) ≡ push_nodes (path_in order nodes.now path.now) junction (length path.now - 1) (wires_in x.old y.old letters.old n ends.old m) }
 {
     let mut total = n;
     let mut k = 0;
@@ -322,7 +323,7 @@ pub fn push_vertices(
     requires room { Room (length x.old) (length y.old) (length letters.old) }
     requires path_bound { n + line_vertices (path_line order nodes.now path.now) ≤ 512 }
     requires path_bound_2 { (m + line_ends (path_line order nodes.now path.now) ≤ 4096) × (16384 ≤ length ends.old) }
-    ensures { wires_out x y letters result ends (m + line_ends (path_in order nodes path)) ≡ push_vertices (path_in order nodes path) root junction (wires_in x y letters n ends m) }
+    ensures { wires_out x.new y.new letters.new result ends.new (m + line_ends (path_in order nodes.now path.now)) ≡ push_vertices (path_in order nodes.now path.now) root junction (wires_in x.old y.old letters.old n ends.old m) }
 {
     let first = push_start(nodes, order, path, root, x, y, letters, n);
     let from = push_start_ends(nodes, order, path, ends, m, n);
@@ -370,7 +371,7 @@ fn push_bend(
 ) -> usize
     requires room { Room (length x.old) (length y.old) (length letters.old) }
     requires along_bound { n + fallback_vertices sx sy ex ey along ≤ 513 }
-    ensures { (result + 2 ≡ n + fallback_vertices sx sy ex ey along) × (vertices_out x y letters result ≡ push_bend sx sy ex ey along (vertices_in x y letters n)) }
+    ensures { (result + 2 ≡ n + fallback_vertices sx sy ex ey along) × (vertices_out x.new y.new letters.new result ≡ push_bend sx sy ex ey along (vertices_in x.old y.old letters.old n)) }
 {
     let cx = pick(along, ex, sx);
     let cy = pick(along, sy, ey);
@@ -395,7 +396,7 @@ fn push_fallback_wire(
 ) -> usize
     requires room { Room (length x.old) (length y.old) (length letters.old) }
     requires along_bound { n + fallback_vertices sx sy ex ey along ≤ 512 }
-    ensures { (n + 2 ≤ result) × (result ≤ 512) × (vertices_out x y letters result ≡ push_fallback_wire sx sy ex ey along junction (vertices_in x y letters n)) }
+    ensures { (n + 2 ≤ result) × (result ≤ 512) × (vertices_out x.new y.new letters.new result ≡ push_fallback_wire sx sy ex ey along junction (vertices_in x.old y.old letters.old n)) }
 {
     let first = push_vertex(
         x,
@@ -436,7 +437,7 @@ pub fn push_fallback_vertices(
     requires room { Room (length x.old) (length y.old) (length letters.old) }
     requires along_bound { n + fallback_vertices sx sy ex ey along ≤ 512 }
     requires m_bound { (m + 2 ≤ 4096) × (16384 ≤ length ends.old) }
-    ensures { wires_out x y letters result ends (m + 2) ≡ push_fallback sx sy ex ey along junction (wires_in x y letters n ends m) }
+    ensures { wires_out x.new y.new letters.new result ends.new (m + 2) ≡ push_fallback sx sy ex ey along junction (wires_in x.old y.old letters.old n ends.old m) }
 {
     let total = push_fallback_wire(sx, sy, ex, ey, along, junction, x, y, letters, n);
     let second = push_end(ends, m, sx, sy, n, CORNER);

@@ -1,4 +1,5 @@
 // Reads a page text on standard input, and prints its wires.
+#![tactic(auto)]
 
 // The errno of a program is 0 until a call fails.
 fn main() {
