@@ -1,0 +1,31 @@
+-- The best of the ends passed and the nearest of those left give the nearest of all.
+use borrow.Author.Rules.{rules}
+use mathlib.Core.Logic.{⊎_elim}
+use native.Mathlib.Omega.{arith}
+use Prim.Native.Nat.{◌-◌}
+use lib.ListN.{take}
+use Rattle.astar.specs.Search.{nearest}
+use Rattle.astar.proofs.Laws.{nearest-begin, nearest-take, nearest-keep, nearest-done}
+use Rattle.astar.proofs.estimate.Goals as goal
+
+pub loop-i-init : goal.loop-i-init
+loop-i-init c = (search rules, search rules, nearest-begin _ _ _ _)
+
+pub distance-d-requires : goal.distance-d-requires
+distance-d-requires c =
+    let p = c.requires in
+    (p.0, rw c.wide-e.ensures (p.3 _ c.loop-i-test.true), p.1, p.2)
+
+pub loop-i-preserved : goal.loop-i-preserved
+loop-i-preserved c =
+    let b = c.loop-i in
+    let d = c.distance-d.ensures.0 in (
+      search rules,
+      ⊎_elim (λ w. omega (arith, c.distance-d.ensures.1)) (λ w. omega (arith, b.invariant.1)) c.if-d-best.branch,
+      ⊎_elim (λ w. rw w.1 (nearest-take _ _ _ _ _ _ _ c.loop-i-test.true b.invariant.2 (rw c.wide-e.ensures at d) w.0.taken)) (λ w. rw w.1 (nearest-keep _ _ _ _ _ _ _ c.loop-i-test.true b.invariant.2 (rw c.wide-e.ensures at d) w.0.left)) c.if-d-best.branch,
+    )
+
+pub returns : goal.returns
+returns c =
+    let b = c.loop-i in
+    (nearest-done _ _ _ _ b.i b.best c.loop-i-test.false b.invariant.1 b.invariant.2, b.invariant.1)

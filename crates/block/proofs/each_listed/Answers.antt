@@ -1,0 +1,22 @@
+-- `block::each_listed` meets its contract. What the scan says of the whole list it says of what is left.
+use mathlib.Core.Path.{refl}
+use Prim.Native.Nat.{◌-◌}
+use native.Mathlib.Omega.{arith}
+use borrow.Author.Rules.{rules}
+use Rattle.block.proofs.Fits
+use Rattle.block.proofs.each_listed.Goals as goal
+
+pub loop-i-init : goal.loop-i-init
+loop-i-init c = (search rules, refl)
+
+pub returns-then-not-member_fits : goal.returns-then-not-member_fits
+returns-then-not-member_fits c =
+    Fits.rows-fail _ _ _ _ c.loop-i.i c.loop-i.invariant.1 _ (omega arith) c.member_fits.ensures c.if-not-member_fits.true-raw
+
+pub loop-i-preserved : goal.loop-i-preserved
+loop-i-preserved c =
+    (omega arith, Fits.rows_pass _ _ _ _ c.loop-i.i c.loop-i.invariant.1 _ (omega arith) c.member_fits.ensures c.if-not-member_fits.false-raw)
+
+pub returns : goal.returns
+returns c =
+    Fits.rows-done _ _ _ _ c.loop-i.i c.loop-i.invariant.1 (omega arith)

@@ -1,0 +1,32 @@
+-- `block::holds` meets its contract. The search over the kind's area.
+use mathlib.Core.Path.{refl}
+use Prim.Native.Nat.{◌-◌, ◌+◌}
+use native.Mathlib.Omega.{arith}
+use borrow.Author.Rules.{rules}
+use Rattle.book.specs.Book.{width}
+use Rattle.block.specs.Block.{size}
+use Rattle.block.proofs.Blocks
+use Rattle.block.proofs.holds.Goals as goal
+
+add_holds : tie.Need-overflow-add-holds
+add_holds c = omega (arith, Blocks.within c.before.before.before.args.kind)
+
+mul_holds : tie.Need-overflow-mul-holds
+mul_holds c = omega (arith, Blocks.within c.before.before.before.args.kind)
+
+sub_holds : tie.Need-overflow-sub-holds
+sub_holds c = search rules
+
+pub slice_bounds-holds-end : goal.slice_bounds-holds-end
+slice_bounds-holds-end c =
+    omega (arith, Blocks.within c.args.kind, c.requires.long)
+
+pub holds-requires : goal.holds-requires
+holds-requires c =
+    Blocks.can-hold c.args.kind c.args.blk.now c.requires c.area_at-a.result c.size.result c.width.result
+    (c.area_at-a.result + c.size.result - c.area_at-a.result) c.area_at-a.ensures c.size.ensures c.width.ensures refl
+
+pub returns : goal.returns
+returns c =
+    Blocks.held _ _ c.requires _ _ _ _ c.area_at-a.ensures c.size.ensures
+    c.width.ensures refl _ _ c.holds.ensures

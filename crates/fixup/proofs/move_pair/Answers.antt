@@ -1,0 +1,15 @@
+-- The pair's coordinate by the axis, and then its junctions.
+use Rattle.fixup.proofs.Moves.{joined-kept, pair-vertical, pair-horizontal}
+use mathlib.Core.Path.{sym, ◌∙◌}
+use native.Mathlib.Omega.{arith}
+use Rattle.fixup.proofs.move_pair.Goals as goal
+
+pub move_junctions-requires : goal.move_junctions-requires
+move_junctions-requires c = let p = c.requires in
+    let same = c.put_pair.auto.xs in record { joined = joined-kept _ _ _ same p.0; y_len = (p.1.0 ∙ sym same, omega (arith, p.1.1), omega (arith, p.1.2)) }
+
+pub returns-then-vertical : goal.returns-then-vertical
+returns-then-vertical c = pair-vertical _ _ _ _ _ _ _ _ _ c.if-vertical.true c.put_pair.ensures c.move_junctions.ensures
+
+pub returns : goal.returns
+returns c = pair-horizontal _ _ _ _ _ _ _ _ _ c.if-vertical.false c.put_pair-2.ensures c.move_junctions-2.ensures

@@ -1,0 +1,35 @@
+use Rattle.page_line.specs.Records.{kind_of}
+use borrow.Author.Rules.{rules}
+use Rattle.page_line.proofs.kind_of.Goals as goal
+
+slice-aggregate-same-bytes : tie.Need-slice-aggregate-same-bytes
+slice-aggregate-same-bytes c = search rules
+
+slice-aggregate-same-bytes-2 : tie.Need-slice-aggregate-same-bytes-2
+slice-aggregate-same-bytes-2 c = search rules
+
+slice-aggregate-same-bytes-3 : tie.Need-slice-aggregate-same-bytes-3
+slice-aggregate-same-bytes-3 c = search rules
+
+slice-aggregate-same-bytes-4 : tie.Need-slice-aggregate-same-bytes-4
+slice-aggregate-same-bytes-4 c = search rules
+
+pub returns-then-same_bytes : goal.returns-then-same_bytes
+unfolding kind_of
+returns-then-same_bytes c = rw (← c.same_bytes.ensures, c.if-same_bytes.true)
+
+pub returns-then-same_bytes-2 : goal.returns-then-same_bytes-2
+unfolding kind_of
+returns-then-same_bytes-2 c = rw (← c.same_bytes.ensures, c.if-same_bytes.false, ← c.same_bytes-2.ensures, c.if-same_bytes-2.true)
+
+pub returns-then-same_bytes-3 : goal.returns-then-same_bytes-3
+unfolding kind_of
+returns-then-same_bytes-3 c = rw (← c.same_bytes.ensures, c.if-same_bytes.false, ← c.same_bytes-2.ensures, c.if-same_bytes-2.false, ← c.same_bytes-3.ensures, c.if-same_bytes-3.true)
+
+pub returns-then-same_bytes-4 : goal.returns-then-same_bytes-4
+unfolding kind_of
+returns-then-same_bytes-4 c = rw (← c.same_bytes.ensures, c.if-same_bytes.false, ← c.same_bytes-2.ensures, c.if-same_bytes-2.false, ← c.same_bytes-3.ensures, c.if-same_bytes-3.false, ← c.same_bytes-4.ensures, c.if-same_bytes-4.true)
+
+pub returns : goal.returns
+unfolding kind_of
+returns c = rw (← c.same_bytes.ensures, c.if-same_bytes.false, ← c.same_bytes-2.ensures, c.if-same_bytes-2.false, ← c.same_bytes-3.ensures, c.if-same_bytes-3.false, ← c.same_bytes-4.ensures, c.if-same_bytes-4.false)

@@ -1,0 +1,19 @@
+-- The edge of the boxes that were passed is the nearest of them.
+-- The edge of the boxes that were passed is the nearest of them.
+use Prim.Native.Nat.{◌-◌}
+use mathlib.Core.Path.{◌≡◌}
+use mathlib.Core.Bool.{false}
+use native.Mathlib.Omega.{arith}
+use Rattle.sightline.proofs.Bounds.{near_none, near-behind, near-bounds}
+use Rattle.sightline.proofs.bound_behind.Goals as goal
+
+pub loop-i-init : goal.loop-i-init
+loop-i-init c = (omega arith, near_none _ _ false)
+
+pub loop-i-preserved : goal.loop-i-preserved
+loop-i-preserved c = (omega arith, rw (c.greater-edge.ensures, c.chosen.ensures) (near-behind _ _ _ _ _ _ _ _ c.bears.ensures c.word.ensures c.word-in-loop-i.ensures (omega arith) c.loop-i.invariant.1))
+
+pub returns : goal.returns
+returns c =
+    let e : c.loop-i.i ≡ c.args.n = omega arith in
+    near-bounds _ _ false _ _ (rw e at c.loop-i.invariant.1)

@@ -1,0 +1,19 @@
+-- The invariant: `best` is the first least of the ends passed.
+use Rattle.wire.proofs.Seeking.{nearest-take, nearest-keep, nearest_zero}
+use Rattle.wire.specs.Ends.{nearest_end}
+use Prim.Native.Nat.{◌-◌}
+use borrow.Author.Rules.{rules}
+use mathlib.Core.Logic.{⊎_elim}
+use mathlib.Core.Path.{◌≡◌, ◌∙◌, ap}
+use native.Mathlib.Omega.{arith}
+use Rattle.wire.proofs.nearest_end.Goals as goal
+
+pub loop-i-init : goal.loop-i-init
+loop-i-init c = (search rules, nearest_zero _ _ _, search rules)
+
+pub loop-i-preserved : goal.loop-i-preserved
+loop-i-preserved c = let l = c.loop-i in (search rules, ⊎_elim (λ w. w.1 ∙ nearest-take _ _ _ l.i l.best (l.invariant).1 _ _ c.end_distance.ensures c.end_distance-in-loop-i.ensures w.0.taken) (λ w. w.1 ∙ nearest-keep _ _ _ l.i l.best (l.invariant).1 _ _ c.end_distance.ensures c.end_distance-in-loop-i.ensures w.0.left) c.if-end_distance.branch, ⊎_elim (λ w. omega arith) (λ w. omega arith) c.if-end_distance.branch)
+
+pub returns : goal.returns
+returns c = let h : c.loop-i.i ≡ c.args.count = omega arith in
+    (c.loop-i.invariant.1 ∙ ap (nearest_end _ _ _) h, c.loop-i.invariant.2)
