@@ -63,7 +63,9 @@ class Fn:
         if not segs:
             return None
         f, rest = segs[0], segs[1:]
-        if f in ("args", "ranges", "lifetimes", "type_inv"):
+        f = "well_formed" if f == "well-formed" else f
+        if f in ("args", "ranges", "lifetimes", "type_inv", "well_formed"):
+            segs[0] = f
             return ["c"] + segs
         if f in ("requires", "pre"):
             pre = self.info["pre"]
@@ -335,7 +337,7 @@ class Turn:
                 continue
             goal = info["needs"][k][1]
             place = asked_at[k]
-            answers.append((com, self.answer(name, goal, place, lines, asked.get(goal))))
+            answers.append((com, self.answer(name, goal, place, lines, asked.get(info["needs"][k][0]))))
         return header, uses, inv, answers, other
 
     def loop(self, kind, loop, name, lines):
@@ -441,10 +443,45 @@ def write(crate, fn, header, uses, inv, answers, other):
         with open(path, "w") as f:
             f.write("\n".join(header + us) + "\n\n" + text + "\n")
 
+    def names_of(d):
+        m = re.match(r"(?:pub )?(?:record|data) ([^\s():{}]+)", d[0]) or re.match(r"(?:abbrev |unfoldable |pub )*(" + ID + r") :", d[0])
+        return m.group(1) if m else None
+
+    def uses_name(text, n):
+        return re.search(r"(?<![\w.'-])" + re.escape(n) + r"(?![\w'-])", text)
+
+    given, grown = [], bool(inv)
+    text = "\n".join("\n".join(d) for _, d in inv)
+    while grown:
+        grown = False
+        for c, d in other:
+            n = names_of(d)
+            if n and (c, d) not in given and uses_name(text, n):
+                given.append((c, d))
+                text += "\n".join(d)
+                grown = True
+    given = [x for x in other if x in given]
+    other = [x for x in other if x not in given]
     if inv:
-        put(f"{top}/Invariants.antt", "Given", inv)
+        out = []
+        for c, d in given:
+            d = list(d)
+            if re.match(r"(record|data) ", d[0]):
+                d = ["pub " + d[0]] + [re.sub(r"^(  )(?!pub )([\w'-]+ :)", r"\1pub \2", l) if d[0].startswith("record") else l for l in d[1:]]
+            elif d[0].startswith("abbrev ") and not d[0].startswith("abbrev pub"):
+                d[0] = "abbrev pub " + d[0][7:]
+            elif d[0].startswith("unfoldable ") and not d[0].startswith("unfoldable pub"):
+                d[0] = "unfoldable pub " + d[0][11:]
+            elif not d[0].startswith(("pub ", "abbrev", "unfoldable")):
+                d[0] = "pub " + d[0]
+            out.append((c, d))
+        put(f"{top}/Invariants.antt", "Given", out + inv)
     ans = [(c, d) for c, d in answers if d]
     if ans:
+        text = "\n".join("\n".join(d) for _, d in other + ans)
+        back = [n for n in (names_of(d) for _, d in given) if n and uses_name(text, n)]
+        if back:
+            uses.append(f"use Rattle.{crate}.proofs.{fn.replace('/', '.')}.Invariants.{{{', '.join(back)}}}")
         put(f"{top}/Answers.antt", "Goals", other + ans)
     os.remove(f"{top}/Proof.antt")
 

@@ -22,8 +22,7 @@ pub ignored-b-requires : goal.ignored-b-requires
 ignored-b-requires c = omega arith
 
 pub with_key-count-requires : goal.with_key-count-requires
-with_key-count-requires c =
-    (omega (arith, c.requires.in_bounds, c.loop-i.invariant.2), ((omega arith, omega arith), keys-asks _ _ _ _ _ _ _ _ c.loop-i.invariant.0 _ c.ignored-b.ensures _ _ c.loop-i-test.true c.requires.out_len_bound))
+with_key-count-requires c = record { in_bounds = omega (arith, c.requires.in_bounds, c.loop-i.invariant.2); n_bound = (omega arith, omega arith); out_len_bound = keys-asks _ _ _ _ _ _ _ _ c.loop-i.invariant.0 _ c.ignored-b.ensures _ _ c.loop-i-test.true c.requires.out_len_bound }
 
 pub loop-i-preserved : goal.loop-i-preserved
 loop-i-preserved c =

@@ -9,8 +9,7 @@ pub push-requires : goal.push-requires
 push-requires c = record { in_bounds = c.requires.in_bounds; n_bound = (let e = row-longer c.args.ends c.args.rows.now c.args.key c.args.b c.args.k (columns c.args.n c.args.out.now) (sym c.takes.ensures ∙ c.if-takes.true) in omega (arith, long c.args.n c.args.out.now)) }
 
 pub returns-then-takes : goal.returns-then-takes
-returns-then-takes c =
-    (c.push.ensures ∙ row-taken _ _ _ _ _ _ (sym c.takes.ensures ∙ c.if-takes.true) _ c.ways-d.ensures, (let e = row-longer c.args.ends c.args.rows.now c.args.key c.args.b c.args.k (columns c.args.n c.args.out.now) (sym c.takes.ensures ∙ c.if-takes.true) in omega (arith, long c.args.n c.args.out.now)))
+returns-then-takes c = record { out_value = c.push.ensures ∙ row-taken _ _ _ _ _ _ (sym c.takes.ensures ∙ c.if-takes.true) _ c.ways-d.ensures; upper_bound = (let e = row-longer c.args.ends c.args.rows.now c.args.key c.args.b c.args.k (columns c.args.n c.args.out.now) (sym c.takes.ensures ∙ c.if-takes.true) in omega (arith, long c.args.n c.args.out.now)) }
 
 pub returns : goal.returns
 returns c = record { out_value = row-left _ _ _ _ _ _ (sym c.takes.ensures ∙ c.if-takes.false); upper_bound = omega arith }

@@ -14,8 +14,7 @@ arrival-arrived-requires c =
     (c.requires.ready.0.wf.few, c.requires.ready.1, c.requires.held.room, c.requires.u_lt_n.0, c.requires.u_lt_n.2)
 
 pub penalty_at-pen-requires : goal.penalty_at-pen-requires
-penalty_at-pen-requires c =
-    (c.requires.ready, (c.requires.held.room, c.requires.u_lt_n.0, c.arrival-arrived.ensures))
+penalty_at-pen-requires c = record { ready = c.requires.ready; n_in_bounds = (c.requires.held.room, c.requires.u_lt_n.0, c.arrival-arrived.ensures) }
 
 pub loop-d-init : goal.loop-d-init
 loop-d-init c = (omega arith, relax_to-zero _ _ _ _ _ _, c.requires.held, refl, refl)

@@ -6,7 +6,7 @@ use Rattle.astar.proofs.Laws.{penalty-run, penalty-start}
 use Rattle.astar.proofs.penalty_at.Goals as goal
 
 pub length_in_direction-run-requires : goal.length_in_direction-run-requires
-length_in_direction-run-requires c = (c.requires.ready, (c.requires.n_in_bounds.0, c.requires.n_in_bounds.1, rw c.opposite-back.ensures (omega (arith, c.if-arrived-lt-DIRECTIONS.true))))
+length_in_direction-run-requires c = record { ready = c.requires.ready; n_in_bounds = (c.requires.n_in_bounds.0, c.requires.n_in_bounds.1, rw c.opposite-back.ensures (omega (arith, c.if-arrived-lt-DIRECTIONS.true))) }
 
 pub corner_penalty-requires : goal.corner_penalty-requires
 corner_penalty-requires c =

@@ -8,8 +8,7 @@ pub id_at-requires : goal.id_at-requires
 id_at-requires c = record { counted = c.requires.counted; i_bound = Blocks.of-area _ _ c.in-Box.is c.requires.i_bound }
 
 pub id_at-requires-in-Net : goal.id_at-requires-in-Net
-id_at-requires-in-Net c =
-    (c.requires.counted, Blocks.of-area _ _ c.in-Net.is c.requires.i_bound)
+id_at-requires-in-Net c = record { counted = c.requires.counted; i_bound = Blocks.of-area _ _ c.in-Net.is c.requires.i_bound }
 
 pub returns-in-Box : goal.returns-in-Box
 unfolding lists_of

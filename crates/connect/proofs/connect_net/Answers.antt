@@ -29,8 +29,7 @@ pub nonzero_rem-b : goal.nonzero_rem-b
 nonzero_rem-b c = let s = c.args in omega (arith, prior-two (graph s.n s.nodes.now).xs (graph s.n s.nodes.now).ys s.n s.px.now s.py.now _ c.prior-number.ensures c.if-number-ne0.false)
 
 pub turns-t-requires : goal.turns-t-requires
-turns-t-requires c =
-    let s = c.args in let i = pair-in _ _ _ _ (prior-two (graph s.n s.nodes.now).xs (graph s.n s.nodes.now).ys s.n s.px.now s.py.now _ c.prior-number.ensures c.if-number-ne0.false) c.pick_root_path-p.ensures in (c.requires.searching, (record { x_room = c.requires.in_bounds.0; y_room = c.requires.in_bounds.1; letters_room = c.requires.in_bounds.2; rows_long = c.requires.rows_len }, (i.0, i.1, c.requires.px_len_bound.0, c.requires.px_len_bound.1, c.requires.in_bounds.4, c.requires.in_bounds.5, c.requires.in_bounds.3)))
+turns-t-requires c = let s = c.args in let i = pair-in _ _ _ _ (prior-two (graph s.n s.nodes.now).xs (graph s.n s.nodes.now).ys s.n s.px.now s.py.now _ c.prior-number.ensures c.if-number-ne0.false) c.pick_root_path-p.ensures in record { searching = c.requires.searching; page = record { x_room = c.requires.in_bounds.0; y_room = c.requires.in_bounds.1; letters_room = c.requires.in_bounds.2; rows_long = c.requires.rows_len }; a_in_bounds = (i.0, i.1, c.requires.px_len_bound.0, c.requires.px_len_bound.1, c.requires.in_bounds.4, c.requires.in_bounds.5, c.requires.in_bounds.3) }
 
 pub refuse-requires-then-t-ne0 : goal.refuse-requires-then-t-ne0
 refuse-requires-then-t-ne0 c =

@@ -4,8 +4,7 @@ use Rattle.connect.proofs.Turning.{turn-root, turn-branch}
 use Rattle.connect.proofs.turn_at.Goals as goal
 
 pub root_at-t-requires : goal.root_at-t-requires
-root_at-t-requires c =
-    (c.requires.searching, (c.requires.page, (c.requires.a_in_bounds.0, c.requires.a_in_bounds.1, c.requires.a_in_bounds.2, c.requires.a_in_bounds.3, (c.requires.k_in_bounds.1 c.if-k-eq0.true).0)))
+root_at-t-requires c = record { searching = c.requires.searching; page = c.requires.page; a_in_bounds = (c.requires.a_in_bounds.0, c.requires.a_in_bounds.1, c.requires.a_in_bounds.2, c.requires.a_in_bounds.3, (c.requires.k_in_bounds.1 c.if-k-eq0.true).0) }
 
 pub returns-then-k-eq0 : goal.returns-then-k-eq0
 returns-then-k-eq0 c =

@@ -13,8 +13,7 @@ pub overflow_add-px : goal.overflow_add-px
 overflow_add-px c = omega (arith, c.requires.a_in_bounds.2)
 
 pub turn_at-made-requires : goal.turn_at-made-requires
-turn_at-made-requires c =
-    (searching-kept c.loop-k.invariant.7 c.loop-k.invariant.8 c.loop-k.invariant.9 c.requires.searching, (page-kept c.loop-k.invariant.2 c.loop-k.invariant.3 c.loop-k.invariant.4 c.loop-k.invariant.5 c.requires.page, ((c.requires.a_in_bounds.0, c.requires.a_in_bounds.1, c.requires.a_in_bounds.2, c.requires.a_in_bounds.3, omega (arith, c.loop-k.invariant.6, c.requires.a_in_bounds.6)), (c.loop-k-test.true, (λ z. turns-first _ _ _ _ _ _ _ _ z c.loop-k.invariant.1 c.requires.a_in_bounds.4 refl), (λ q. turns-bounds _ _ _ _ _ _ _ _ q c.loop-k.invariant.1 c.requires.a_in_bounds.4 refl c.requires.a_in_bounds.5)))))
+turn_at-made-requires c = record { searching = searching-kept c.loop-k.invariant.7 c.loop-k.invariant.8 c.loop-k.invariant.9 c.requires.searching; page = page-kept c.loop-k.invariant.2 c.loop-k.invariant.3 c.loop-k.invariant.4 c.loop-k.invariant.5 c.requires.page; a_in_bounds = (c.requires.a_in_bounds.0, c.requires.a_in_bounds.1, c.requires.a_in_bounds.2, c.requires.a_in_bounds.3, omega (arith, c.loop-k.invariant.6, c.requires.a_in_bounds.6)); k_in_bounds = (c.loop-k-test.true, (λ z. turns-first _ _ _ _ _ _ _ _ z c.loop-k.invariant.1 c.requires.a_in_bounds.4 refl), (λ q. turns-bounds _ _ _ _ _ _ _ _ q c.loop-k.invariant.1 c.requires.a_in_bounds.4 refl c.requires.a_in_bounds.5)) }
 
 pub overflow_add-k : goal.overflow_add-k
 overflow_add-k c =

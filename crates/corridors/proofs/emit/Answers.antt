@@ -8,14 +8,14 @@ returns-then-made-gt-ANCHORS c = (record { full = λ h. c.if-made-gt-ANCHORS.tru
 
 pub overflow_add-a : goal.overflow_add-a
 overflow_add-a c =
-    omega (arith, c.requires.0, c.requires.1.along_room, c.well-formed.0.0)
+    omega (arith, c.requires.0, c.requires.1.along_room, c.well_formed.0.0)
 
 pub put_two-requires : goal.put_two-requires
 put_two-requires c = omega (arith, c.requires.1.along_room, c.if-made-gt-ANCHORS.false)
 
 pub overflow_add-c : goal.overflow_add-c
 overflow_add-c c =
-    omega (arith, c.requires.0, c.requires.1.across_room, c.well-formed.0.0)
+    omega (arith, c.requires.0, c.requires.1.across_room, c.well_formed.0.0)
 
 pub put_two-requires-2 : goal.put_two-requires-2
 put_two-requires-2 c = omega (arith, c.requires.1.across_room, c.if-made-gt-ANCHORS.false, c.put_two.auto.list)

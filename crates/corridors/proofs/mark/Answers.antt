@@ -12,7 +12,7 @@ loop-i-init c = (omega arith, refl, none-directed _ _ _, within-refl _ _ _)
 
 pub overflow_add-d : goal.overflow_add-d
 overflow_add-d c =
-    omega (arith, c.requires, c.loop-i-test.true, c.well-formed.0.0)
+    omega (arith, c.requires, c.loop-i-test.true, c.well_formed.0.0)
 
 pub put-requires : goal.put-requires
 put-requires c = omega (arith, c.requires, c.loop-i-test.true, c.loop-i.invariant.1)

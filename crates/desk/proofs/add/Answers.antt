@@ -9,19 +9,18 @@ use Rattle.desk.proofs.Words
 use Rattle.desk.proofs.add.Goals as goal
 
 pub returns-then-sound-ne0 : goal.returns-then-sound-ne0
-returns-then-sound-ne0 c = Whole.says-d _ _ c.validate-sound.ensures _ _ _ c.if-sound-ne0.true
+returns-then-sound-ne0 c = let both = Whole.says-d _ _ c.validate-sound.ensures _ _ _ c.if-sound-ne0.true in record { value = both.0; desk_after = both.1 }
 
 pub slice_bounds-take_number-end : goal.slice_bounds-take_number-end
 slice_bounds-take_number-end c = omega (arith, (Whole.sound-at _ _ c.validate-sound.ensures c.if-sound-ne0.false).long)
 
 pub take_number-number-requires : goal.take_number-number-requires
 unfolding block part
-take_number-number-requires c =
-    (Whole.counted _ (Whole.sound-at _ _ c.validate-sound.ensures c.if-sound-ne0.false), c.requires)
+take_number-number-requires c = record { counted = Whole.counted _ (Whole.sound-at _ _ c.validate-sound.ensures c.if-sound-ne0.false); row_len = c.requires }
 
 pub returns-then-number-ne0 : goal.returns-then-number-ne0
 unfolding book_of block part take_number_in
-returns-then-number-ne0 c = Whole.says-n _ _ c.validate-sound.ensures _ _ _ c.if-sound-ne0.false _ c.take_number-number.ensures c.if-number-ne0.true
+returns-then-number-ne0 c = let both = Whole.says-n _ _ c.validate-sound.ensures _ _ _ c.if-sound-ne0.false _ c.take_number-number.ensures c.if-number-ne0.true in record { value = both.0; desk_after = both.1 }
 
 pub lay_added-requires : goal.lay_added-requires
 lay_added-requires c = (Whole.sound-at _ _ c.validate-sound.ensures c.if-sound-ne0.false).long

@@ -8,7 +8,7 @@ use Rattle.desk.proofs.Whole
 use Rattle.desk.proofs.retire.Goals as goal
 
 pub returns-then-sound-ne0 : goal.returns-then-sound-ne0
-returns-then-sound-ne0 c = Whole.says-d _ _ c.validate-sound.ensures _ _ _ c.if-sound-ne0.true
+returns-then-sound-ne0 c = let both = Whole.says-d _ _ c.validate-sound.ensures _ _ _ c.if-sound-ne0.true in record { value = both.0; desk_after = both.1 }
 
 pub slice_bounds-leave_number-end : goal.slice_bounds-leave_number-end
 slice_bounds-leave_number-end c = omega (arith, (Whole.sound-at _ _ c.validate-sound.ensures c.if-sound-ne0.false).long)
@@ -19,7 +19,7 @@ leave_number-number-requires c = Whole.counted _ (Whole.sound-at _ _ c.validate-
 
 pub returns-then-number-ne0 : goal.returns-then-number-ne0
 unfolding book_of block part leave_number
-returns-then-number-ne0 c = Whole.says-n _ _ c.validate-sound.ensures _ _ _ c.if-sound-ne0.false _ c.leave_number-number.ensures c.if-number-ne0.true
+returns-then-number-ne0 c = let both = Whole.says-n _ _ c.validate-sound.ensures _ _ _ c.if-sound-ne0.false _ c.leave_number-number.ensures c.if-number-ne0.true in record { value = both.0; desk_after = both.1 }
 
 pub slice_bounds-spot-end : goal.slice_bounds-spot-end
 slice_bounds-spot-end c = omega (arith, (Whole.sound-at _ _ c.validate-sound.ensures c.if-sound-ne0.false).long)

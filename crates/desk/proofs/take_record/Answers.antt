@@ -8,12 +8,11 @@ use Rattle.desk.proofs.take_record.Goals as goal
 
 pub take_number-number-requires : goal.take_number-number-requires
 unfolding block part
-take_number-number-requires c =
-    (c.requires.ready.counted, c.requires.row_len)
+take_number-number-requires c = record { counted = c.requires.ready.counted; row_len = c.requires.row_len }
 
 pub returns-then-number-ne0 : goal.returns-then-number-ne0
 unfolding block part
-returns-then-number-ne0 c = (c.take_number-number.ensures, Whole.kept _ _ _ c.if-number-ne0.true)
+returns-then-number-ne0 c = record { value = c.take_number-number.ensures; desk_after = Whole.kept _ _ _ c.if-number-ne0.true }
 
 pub put_record-requires : goal.put_record-requires
 unfolding block part

@@ -6,16 +6,15 @@ use Rattle.desk.proofs.Whole
 use Rattle.desk.proofs.undo.Goals as goal
 
 pub returns-then-sound-ne0 : goal.returns-then-sound-ne0
-returns-then-sound-ne0 c = Whole.says-d _ _ c.validate-sound.ensures _ _ _ c.if-sound-ne0.true
+returns-then-sound-ne0 c = let both = Whole.says-d _ _ c.validate-sound.ensures _ _ _ c.if-sound-ne0.true in record { value = both.0; desk_after = both.1 }
 
 pub bounds-desk-0 : goal.bounds-desk-0
 bounds-desk-0 c =
     omega (arith, (Whole.sound-at _ _ c.validate-sound.ensures c.if-sound-ne0.false).long)
 
 pub returns-then-desk-eq0 : goal.returns-then-desk-eq0
-returns-then-desk-eq0 c =
-    Whole.says-n _ _ c.validate-sound.ensures _ _ _ c.if-sound-ne0.false 7
-    (lists-say {f = 0} refl refl (Whole.empty-pile _ c.if-desk-eq0.true)) (omega arith)
+returns-then-desk-eq0 c = let both = Whole.says-n _ _ c.validate-sound.ensures _ _ _ c.if-sound-ne0.false 7
+    (lists-say {f = 0} refl refl (Whole.empty-pile _ c.if-desk-eq0.true)) (omega arith) in record { value = both.0; desk_after = both.1 }
 
 pub take_latest-requires : goal.take_latest-requires
 take_latest-requires c = record { sound = Whole.sound-at _ _ c.validate-sound.ensures c.if-sound-ne0.false; nonzero = omega arith }

@@ -3,10 +3,10 @@ use Rattle.desk_search.proofs.Call.{lent-2, lent-2q, lent-asks, lent-on}
 use Rattle.desk_search.proofs.search_lent.Goals as goal
 
 pub returns-then-validate-ne0 : goal.returns-then-validate-ne0
-returns-then-validate-ne0 c = lent-2 c.args.desk.now c.args.prune c.args.x c.args.y c.args.ex.now c.args.ey.now c.args.lx.now c.args.ly.now c.args.kinds.now c.args.dirs.now _ c.requires c.validate.ensures c.if-validate-ne0.true _ c.no_line.ensures
+returns-then-validate-ne0 c = let both = lent-2 c.args.desk.now c.args.prune c.args.x c.args.y c.args.ex.now c.args.ey.now c.args.lx.now c.args.ly.now c.args.kinds.now c.args.dirs.now _ c.requires c.validate.ensures c.if-validate-ne0.true _ c.no_line.ensures in record { value = both.0; dirs_after = both.1 }
 
 pub returns-then-not-ok_query : goal.returns-then-not-ok_query
-returns-then-not-ok_query c = lent-2q c.args.desk.now c.args.prune c.args.x c.args.y c.args.ex.now c.args.ey.now c.args.lx.now c.args.ly.now c.args.kinds.now c.args.dirs.now _ c.requires c.validate.ensures c.if-validate-ne0.false _ c.ok_query.ensures c.if-not-ok_query.true-raw _ c.no_line-then-not-ok_query.ensures
+returns-then-not-ok_query c = let both = lent-2q c.args.desk.now c.args.prune c.args.x c.args.y c.args.ex.now c.args.ey.now c.args.lx.now c.args.ly.now c.args.kinds.now c.args.dirs.now _ c.requires c.validate.ensures c.if-validate-ne0.false _ c.ok_query.ensures c.if-not-ok_query.true-raw _ c.no_line-then-not-ok_query.ensures in record { value = both.0; dirs_after = both.1 }
 
 pub search_valid-requires : goal.search_valid-requires
 search_valid-requires c = let both = (c.requires, lent-asks c.args.desk.now c.args.prune c.args.x c.args.y c.args.ex.now c.args.ey.now c.args.lx.now c.args.ly.now c.args.kinds.now c.args.dirs.now _ c.requires c.validate.ensures c.if-validate-ne0.false _ c.ok_query.ensures c.if-not-ok_query.false-raw) in record { in_bounds = both.0; desk_value = both.1.0; ey_value = both.1.1 }

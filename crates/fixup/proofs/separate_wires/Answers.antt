@@ -12,14 +12,10 @@ use Prim.Native.Nat.{ℕ}
 use Rattle.fixup.proofs.separate_wires.Goals as goal
 
 pub gather-h-requires : goal.gather-h-requires
-gather-h-requires c =
-    let p = c.requires in
-    (joined-kept _ _ _ p.1.0.0 p.0, ((sym p.1.0.0, omega (arith, p.1.0.0, p.1.0.1), omega (arith, p.1.0.0, p.1.0.2)), (omega arith, omega arith, omega arith)))
+gather-h-requires c = let p = c.requires in record { joined = joined-kept _ _ _ p.1.0.0 p.0; along_len = (sym p.1.0.0, omega (arith, p.1.0.0, p.1.0.1), omega (arith, p.1.0.0, p.1.0.2)); in_bounds = (omega arith, omega arith, omega arith) }
 
 pub gather-v-requires : goal.gather-v-requires
-gather-v-requires c =
-    let p = c.requires in
-    (p.0, ((p.1.0.0, p.1.0.1, p.1.0.2), (omega arith, omega arith, omega arith)))
+gather-v-requires c = let p = c.requires in record { joined = p.0; along_len = (p.1.0.0, p.1.0.1, p.1.0.2); in_bounds = (omega arith, omega arith, omega arith) }
 
 pub separate_gathered-requires : goal.separate_gathered-requires
 separate_gathered-requires c = let p = c.requires in

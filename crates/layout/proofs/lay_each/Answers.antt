@@ -10,8 +10,7 @@ pub loop-i-init : goal.loop-i-init
 loop-i-init c = (omega arith, nets-none _ _ _ _ _, record { most = omega arith; half = omega arith }, refl, refl, refl, refl, refl, refl, refl, refl, refl)
 
 pub lay_net-laid-requires : goal.lay_net-laid-requires
-lay_net-laid-requires c =
-    (searching-kept c.loop-i.invariant.9 c.loop-i.invariant.10 c.loop-i.invariant.11 c.requires.searching, ((c.requires.nn_bound.2, c.requires.nn_bound.3, omega (arith, c.loop-i-test.true, c.requires.nn_bound.0), omega (arith, c.loop-i.invariant.3, c.requires.nn_bound.4)), ((omega (arith, c.loop-i.invariant.4, c.requires.in_bounds.0), omega (arith, c.loop-i.invariant.5, c.requires.in_bounds.1), omega (arith, c.loop-i.invariant.6, c.requires.in_bounds.2), omega (arith, c.loop-i.invariant.7, c.requires.in_bounds.3), c.loop-i.invariant.2.most, c.loop-i.invariant.2.half), c.loop-i.invariant.8 ∙ c.requires.rows_len)))
+lay_net-laid-requires c = record { searching = searching-kept c.loop-i.invariant.9 c.loop-i.invariant.10 c.loop-i.invariant.11 c.requires.searching; ne_bound = (c.requires.nn_bound.2, c.requires.nn_bound.3, omega (arith, c.loop-i-test.true, c.requires.nn_bound.0), omega (arith, c.loop-i.invariant.3, c.requires.nn_bound.4)); in_bounds = (omega (arith, c.loop-i.invariant.4, c.requires.in_bounds.0), omega (arith, c.loop-i.invariant.5, c.requires.in_bounds.1), omega (arith, c.loop-i.invariant.6, c.requires.in_bounds.2), omega (arith, c.loop-i.invariant.7, c.requires.in_bounds.3), c.loop-i.invariant.2.most, c.loop-i.invariant.2.half); rows_len = c.loop-i.invariant.8 ∙ c.requires.rows_len }
 
 pub overflow_add-i : goal.overflow_add-i
 overflow_add-i c =

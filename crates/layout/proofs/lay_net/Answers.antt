@@ -18,8 +18,7 @@ slice_bounds-connect_net-end-2 c =
     sym (length-take-le _ c.take_points-k.new.py (omega (arith, c.take_points-k.ensures.0, c.requires.ne_bound.0, c.take_points-k.auto.py)))
 
 pub connect_net-r-requires : goal.connect_net-r-requires
-connect_net-r-requires c =
-    (c.requires.searching, (points-parts c.take_points-k.result _ c.take_points-k.new.px c.take_points-k.new.py c.requires.ne_bound.0 c.take_points-k.ensures.0 (omega (arith, c.take_points-k.ensures.0, c.requires.ne_bound.0, c.take_points-k.auto.px)) (omega (arith, c.take_points-k.ensures.0, c.requires.ne_bound.0, c.take_points-k.auto.py)), (c.requires.in_bounds, c.requires.rows_len)))
+connect_net-r-requires c = record { searching = c.requires.searching; px_len_bound = points-parts c.take_points-k.result _ c.take_points-k.new.px c.take_points-k.new.py c.requires.ne_bound.0 c.take_points-k.ensures.0 (omega (arith, c.take_points-k.ensures.0, c.requires.ne_bound.0, c.take_points-k.auto.px)) (omega (arith, c.take_points-k.ensures.0, c.requires.ne_bound.0, c.take_points-k.auto.py)); in_bounds = c.requires.in_bounds; rows_len = c.requires.rows_len }
 
 pub record_net-requires : goal.record_net-requires
 record_net-requires c =

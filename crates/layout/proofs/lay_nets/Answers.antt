@@ -7,13 +7,13 @@ use borrow.Author.Rules.{rules}
 use Rattle.layout.proofs.lay_nets.Goals as goal
 
 pub returns-then-nn-eq0 : goal.returns-then-nn-eq0
-returns-then-nn-eq0 c = (nets-end _ _ _ _ _ _ _ _ (sym c.if-nn-eq0.true) (nets-none _ _ _ _ _), record { most = omega arith; half = omega arith })
+returns-then-nn-eq0 c = record { j_value = nets-end _ _ _ _ _ _ _ _ (sym c.if-nn-eq0.true) (nets-none _ _ _ _ _); fit = record { most = omega arith; half = omega arith } }
 
 pub lay_each-requires : goal.lay_each-requires
 lay_each-requires c = record { searching = record { ready = c.requires.ready.0; words = c.requires.ready.1; room = record { cells_room = omega (arith, c.if-n-le-SMALL.true); tree_room = omega (arith, c.if-n-le-SMALL.true); list_room = omega (arith, c.if-n-le-SMALL.true); ends_room = search rules } }; nn_bound = c.requires.nn_bound; in_bounds = c.requires.in_bounds; rows_len = search rules }
 
 pub returns-then-n-le-SMALL : goal.returns-then-n-le-SMALL
-returns-then-n-le-SMALL c = c.lay_each.ensures
+returns-then-n-le-SMALL c = let both = c.lay_each.ensures in record { j_value = both.0; fit = both.1 }
 
 pub lay_each-requires-2 : goal.lay_each-requires-2
 lay_each-requires-2 c = record { searching = record { ready = c.requires.ready.0; words = c.requires.ready.1; room = record { cells_room = omega (arith, few-lent _ _ c.requires.ready.0); tree_room = omega (arith, few-lent _ _ c.requires.ready.0); list_room = omega (arith, few-lent _ _ c.requires.ready.0); ends_room = search rules } }; nn_bound = c.requires.nn_bound; in_bounds = c.requires.in_bounds; rows_len = search rules }

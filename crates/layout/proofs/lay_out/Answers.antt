@@ -5,8 +5,7 @@ use Rattle.layout.proofs.Laying.{from-blank, drawn-as-is, drawn-apart, page-sepa
 use Rattle.layout.proofs.lay_out.Goals as goal
 
 pub lay_nets-c-requires : goal.lay_nets-c-requires
-lay_nets-c-requires c =
-    ((c.requires.ground.0.ready, c.requires.ground.1), ((c.requires.nn_bound.0, c.requires.nn_bound.1, c.requires.nn_bound.2, c.requires.nn_bound.3, omega (arith, c.clear.auto.nets, c.requires.nn_bound.4)), (omega (arith, c.clear.auto.x, c.requires.in_bounds.0), omega (arith, c.clear.auto.y, c.requires.in_bounds.1), omega (arith, c.clear.auto.letters, c.requires.in_bounds.2), omega (arith, c.clear.auto.joins, c.requires.in_bounds.3))))
+lay_nets-c-requires c = record { ready = (c.requires.ground.0.ready, c.requires.ground.1); nn_bound = (c.requires.nn_bound.0, c.requires.nn_bound.1, c.requires.nn_bound.2, c.requires.nn_bound.3, omega (arith, c.clear.auto.nets, c.requires.nn_bound.4)); in_bounds = (omega (arith, c.clear.auto.x, c.requires.in_bounds.0), omega (arith, c.clear.auto.y, c.requires.in_bounds.1), omega (arith, c.clear.auto.letters, c.requires.in_bounds.2), omega (arith, c.clear.auto.joins, c.requires.in_bounds.3)) }
 
 pub shape_of-nets-then-not-apart : goal.shape_of-nets-then-not-apart
 shape_of-nets-then-not-apart c =

@@ -11,7 +11,7 @@ loop-j-init c = writing_begins _ _ _ _ c.requires
 
 pub put_join_at-next-requires : goal.put_join_at-next-requires
 unfolding join_from
-put_join_at-next-requires c = (writing-room c.loop-j.invariant (omega arith), omega arith)
+put_join_at-next-requires c = record { r_in_bounds = writing-room c.loop-j.invariant (omega arith); r_bound = omega arith }
 
 pub loop-j-preserved : goal.loop-j-preserved
 unfolding join_from

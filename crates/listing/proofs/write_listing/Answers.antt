@@ -18,7 +18,7 @@ loop-i-init c =
     writing_begins (net_at (page r.nets.now r.ids.now (ups xs) (ups ys) r.kinds.now r.junctions.now)) r.n r.buf.now 0 (omega (arith, c.requires.n_in_bounds))
 
 pub put_net_at-next-requires : goal.put_net_at-next-requires
-put_net_at-next-requires c = (writing-room c.loop-i.invariant (omega arith), omega arith)
+put_net_at-next-requires c = record { i_in_bounds = writing-room c.loop-i.invariant (omega arith); i_bound = omega arith }
 
 pub loop-i-preserved : goal.loop-i-preserved
 loop-i-preserved c = writing-on c.loop-i.invariant _ _ (omega arith) c.put_net_at-next.ensures c.put_net_at-next.auto.buf

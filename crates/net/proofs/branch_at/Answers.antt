@@ -25,8 +25,7 @@ bounds-py-i c =
     omega (arith, c.requires.i_in_bounds.0, c.requires.i_in_bounds.2)
 
 pub branch-t-requires : goal.branch-t-requires
-branch-t-requires c =
-    let r = room_for (c.requires.i_in_bounds.3 c.if-made-ne0.false) in (c.requires.searching, (c.requires.page, (r.0, r.1, r.2, r.3, c.requires.i_in_bounds.4)))
+branch-t-requires c = let r = room_for (c.requires.i_in_bounds.3 c.if-made-ne0.false) in record { searching = c.requires.searching; page = c.requires.page; count_bound = (r.0, r.1, r.2, r.3, c.requires.i_in_bounds.4) }
 
 pub with_junction-requires : goal.with_junction-requires
 with_junction-requires c =

@@ -21,9 +21,7 @@ slice_bounds-find_between-end-4 c =
     sym (length-take-le _ c.write_ends-2.new.to (omega (arith, c.write_ends-2.auto.to, c.requires.m_in_bounds.1)))
 
 pub find_between-a-requires : goal.find_between-a-requires
-find_between-a-requires c =
-    let p = parts-ended c.args.m c.write_ends.new.to c.write_ends-2.new.to (omega (arith, c.write_ends.auto.to, c.requires.m_in_bounds.0)) (omega (arith, c.write_ends-2.auto.to, c.requires.m_in_bounds.1)) c.requires.m_bound.0 in
-    ((c.requires.searching.ready, c.requires.searching.words), (p.0, fewer-ends p.1 c.requires.searching.room))
+find_between-a-requires c = let p = parts-ended c.args.m c.write_ends.new.to c.write_ends-2.new.to (omega (arith, c.write_ends.auto.to, c.requires.m_in_bounds.0)) (omega (arith, c.write_ends-2.auto.to, c.requires.m_in_bounds.1)) c.requires.m_bound.0 in record { ready = (c.requires.searching.ready, c.requires.searching.words); ey_len = p.0; room = fewer-ends p.1 c.requires.searching.room }
 
 pub overflow_sub-result : goal.overflow_sub-result
 overflow_sub-result c = nodes-fit _ _ _ _ _ _ _ _ c.find_between-a.ensures

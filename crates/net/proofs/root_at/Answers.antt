@@ -48,7 +48,7 @@ root_line-at-requires c = c.requires.searching
 
 pub offset_bounds-list-at : goal.offset_bounds-list-at
 offset_bounds-list-at c =
-    omega (arith, c.well-formed.1.1.1.1.1.1.1.1.1.1.1.1.1.0.1, c.root_line-at.auto.list, c.root_line-at.ensures.0)
+    omega (arith, c.well_formed.1.1.1.1.1.1.1.1.1.1.1.1.1.0.1, c.root_line-at.auto.list, c.root_line-at.ensures.0)
 
 pub route_wire-requires : goal.route_wire-requires
 route_wire-requires c = record { path_on = on-path _ _ c.requires.searching.ready c.requires.searching.words _ _ _ _ _ (part_to_end c.root_line-at.new.list c.root_line-at.result ∙ c.root_line-at.ensures.1); room = record { of_x = c.requires.page.x_room; of_y = c.requires.page.y_room; of_kinds = c.requires.page.letters_room }; n_bound = (c.requires.a_in_bounds.4, omega arith, omega (arith, c.requires.page.rows_long)) }

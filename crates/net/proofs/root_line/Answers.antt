@@ -7,8 +7,7 @@ use borrow.Author.Rules.{rules}
 use Rattle.net.proofs.root_line.Goals as goal
 
 pub find_between-a-requires : goal.find_between-a-requires
-find_between-a-requires c =
-    ((c.requires.ready, c.requires.words), (search rules, fewer-ends (search rules) c.requires.room))
+find_between-a-requires c = record { ready = (c.requires.ready, c.requires.words); ey_len = search rules; room = fewer-ends (search rules) c.requires.room }
 
 pub overflow_sub-result : goal.overflow_sub-result
 overflow_sub-result c = nodes-fit _ _ _ _ _ _ _ _ c.find_between-a.ensures

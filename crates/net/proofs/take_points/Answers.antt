@@ -10,7 +10,7 @@ pub loop-k-init : goal.loop-k-init
 loop-k-init c = (omega arith, omega arith, refl, refl, column-none _ _ _, column-none _ _ _)
 
 pub take_point-m-requires : goal.take_point-m-requires
-take_point-m-requires c = ((omega arith, omega arith, omega arith, omega arith, omega arith), (c.loop-k.invariant.4, c.loop-k.invariant.5))
+take_point-m-requires c = record { k_bound = (omega arith, omega arith, omega arith, omega arith, omega arith); px_value = (c.loop-k.invariant.4, c.loop-k.invariant.5) }
 
 pub overflow_add-k : goal.overflow_add-k
 overflow_add-k c = omega arith

@@ -6,16 +6,13 @@ use borrow.Author.Rules.{rules}
 use Rattle.nodes.proofs.place.Goals as goal
 
 pub look_up-i-requires : goal.look_up-i-requires
-look_up-i-requires c =
-    (c.requires.n_bound, c.requires.keyed.mapped c.requires.n_bound.0)
+look_up-i-requires c = record { n_bound = c.requires.n_bound; mapped = c.requires.keyed.mapped c.requires.n_bound.0 }
 
 pub returns-then-i-n : goal.returns-then-i-n
-returns-then-i-n c =
-    (met-found c.args.n c.args.nodes.now c.args.x c.args.y c.args.m c.look_up-i.result c.look_up-i.ensures _ c.if-i-n.true c.remark.ensures, keyed-marked c.requires.keyed _ _ _ c.remark.ensures)
+returns-then-i-n c = record { met = met-found c.args.n c.args.nodes.now c.args.x c.args.y c.args.m c.look_up-i.result c.look_up-i.ensures _ c.if-i-n.true c.remark.ensures; keyed_2 = keyed-marked c.requires.keyed _ _ _ c.remark.ensures }
 
 pub returns-then-n-eq-NODES : goal.returns-then-n-eq-NODES
-returns-then-n-eq-NODES c =
-    (met-full c.args.n c.args.nodes.now c.args.x c.args.y c.args.m c.look_up-i.result c.look_up-i.ensures _ c.if-i-n.false c.if-n-eq-NODES.true, keyed-full _ _ _ (omega arith))
+returns-then-n-eq-NODES c = record { met = met-full c.args.n c.args.nodes.now c.args.x c.args.y c.args.m c.look_up-i.result c.look_up-i.ensures _ c.if-i-n.false c.if-n-eq-NODES.true; keyed_2 = keyed-full _ _ _ (omega arith) }
 
 pub enter-requires : goal.enter-requires
 enter-requires c =

@@ -4,8 +4,7 @@ use Rattle.page_graph.proofs.Parts.{anchors-part}
 use Rattle.page_graph.proofs.make_graph.Goals as goal
 
 pub make-n-requires : goal.make-n-requires
-make-n-requires c =
-    (c.requires.b_bound, (c.requires.all_bound, (c.requires.in_bounds, c.requires.all_in_bounds)))
+make-n-requires c = record { b_bound = c.requires.b_bound; a_bound = c.requires.all_bound; in_bounds = c.requires.in_bounds; a_in_bounds = c.requires.all_in_bounds }
 
 pub returns : goal.returns
 returns c =

@@ -6,9 +6,7 @@ pub lay_out-requires : goal.lay_out-requires
 lay_out-requires c = record { ground = (c.requires.grounded.ground _ c.in-Nodes.is, c.requires.grounded.room); nn_bound = c.requires.nn_bound; in_bounds = c.requires.in_bounds }
 
 pub returns-in-Crowded : goal.returns-in-Crowded
-returns-in-Crowded c =
-    (number-full _ c.in-Crowded.is, laid-full _ _ _ _ _ _ _ _ _ _ _ _ _ _ _ _ c.args.apart c.in-Crowded.is c.clear.ensures)
+returns-in-Crowded c = record { value = number-full _ c.in-Crowded.is; joins_value = laid-full _ _ _ _ _ _ _ _ _ _ _ _ _ _ _ _ c.args.apart c.in-Crowded.is c.clear.ensures }
 
 pub returns-in-Nodes : goal.returns-in-Nodes
-returns-in-Nodes c =
-    (number_fits _ _ c.in-Nodes.is, laid-fits _ _ _ _ _ _ _ _ _ _ _ _ _ _ _ _ c.args.apart _ c.in-Nodes.is _ _ c.lay_out.ensures)
+returns-in-Nodes c = record { value = number_fits _ _ c.in-Nodes.is; joins_value = laid-fits _ _ _ _ _ _ _ _ _ _ _ _ _ _ _ _ c.args.apart _ c.in-Nodes.is _ _ c.lay_out.ensures }

@@ -5,7 +5,7 @@ use borrow.Author.Rules.{rules}
 use Rattle.page_layout.proofs.lay_out_page.Goals as goal
 
 pub graph_of-g-requires : goal.graph_of-g-requires
-graph_of-g-requires c = (c.requires.asked, search rules)
+graph_of-g-requires c = record { asked = c.requires.asked; in_bounds = search rules }
 
 pub lay_on-requires : goal.lay_on-requires
 lay_on-requires c = let s = c.requires in

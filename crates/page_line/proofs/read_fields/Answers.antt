@@ -22,7 +22,7 @@ pub shape_of-vals-in_default : goal.shape_of-vals-in_default
 shape_of-vals-in_default c = omega arith
 
 pub returns-in_default : goal.returns-in_default
-returns-in_default c = (S.fields-bad _ c.loop-n.at _ c.loop-n.n _ _ c.find-e.ensures (omega arith) c.read_number-x.ensures c.loop-n.invariant.count c.in_default.is, λ h. absurd (omega arith))
+returns-in_default c = record { value = S.fields-bad _ c.loop-n.at _ c.loop-n.n _ _ c.find-e.ensures (omega arith) c.read_number-x.ensures c.loop-n.invariant.count c.in_default.is; vals_after = λ h. absurd (omega arith) }
 
 pub offset_bounds-vals-n : goal.offset_bounds-vals-n
 offset_bounds-vals-n c = omega arith
@@ -31,7 +31,7 @@ pub shape_of-vals-then-e-s : goal.shape_of-vals-then-e-s
 shape_of-vals-then-e-s c = simp length-set (omega arith)
 
 pub returns-then-e-s : goal.returns-then-e-s
-returns-then-e-s c = let p = S.fields-last _ c.loop-n.at _ c.loop-n.n _ _ c.find-e.ensures (omega arith) c.read_number-x.ensures c.loop-n.invariant.count _ c.in-Word.is _ _ (omega arith) c.loop-n.invariant.whole c.if-e-s.true (omega arith) in (p.0, λ h. p.1)
+returns-then-e-s c = let p = S.fields-last _ c.loop-n.at _ c.loop-n.n _ _ c.find-e.ensures (omega arith) c.read_number-x.ensures c.loop-n.invariant.count _ c.in-Word.is _ _ (omega arith) c.loop-n.invariant.whole c.if-e-s.true (omega arith) in record { value = p.0; vals_after = λ h. p.1 }
 
 pub overflow_add-at : goal.overflow_add-at
 overflow_add-at c = omega (arith, S.field_end _ _ _ c.find-e.ensures (omega arith))

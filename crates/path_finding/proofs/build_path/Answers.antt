@@ -15,7 +15,7 @@ pub overflow_cast-list : goal.overflow_cast-list
 overflow_cast-list c = omega (arith, trace-in _ _ _ _ _ _ _ c.loop-p.invariant, c.requires.0)
 
 pub offset_bounds-list-at : goal.offset_bounds-list-at
-offset_bounds-list-at c = omega (arith, trace-pos _ _ _ _ _ _ _ c.loop-p.invariant, c.loop-p.invariant.inside, c.well-formed.1.1.1.0.1)
+offset_bounds-list-at c = omega (arith, trace-pos _ _ _ _ _ _ _ c.loop-p.invariant, c.loop-p.invariant.inside, c.well_formed.1.1.1.0.1)
 
 pub bounds-list-at : goal.bounds-list-at
 bounds-list-at c = omega (arith, trace-pos _ _ _ _ _ _ _ c.loop-p.invariant, c.loop-p.invariant.inside, c.loop-p.invariant.len)

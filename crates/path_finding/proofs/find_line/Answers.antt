@@ -20,8 +20,7 @@ slice_bounds-find_path_impl-end-2 c =
     sym (length-take-le _ _ (omega (arith, c.gather-m.ensures.0, c.gather-m.auto.list, c.requires.room.ends_room, c.requires.room.list_room)))
 
 pub find_path_impl-f-requires : goal.find_path_impl-f-requires
-find_path_impl-f-requires c =
-    (c.requires.ready, ((lent-scores _ _ _ _ c.blank.ensures c.gather-m.ensures.3, lent-preds _ _ _ _ c.blank.ensures c.gather-m.ensures.3, lent-sums _ _ _ _ c.blank.ensures c.gather-m.ensures.3, c.requires.start_lt_n.0, goals-are-nodes c.args.n _ _ _ c.requires.start_lt_n.1 (all-goals _ _ _ c.requires.room.ends_room _ c.gather-m.ensures.1)), lent-held _ _ _ _ c.blank.ensures c.gather-m.ensures.3 _ _ _ c.gather-m.ensures.2))
+find_path_impl-f-requires c = record { ready = c.requires.ready; cells_value = (lent-scores _ _ _ _ c.blank.ensures c.gather-m.ensures.3, lent-preds _ _ _ _ c.blank.ensures c.gather-m.ensures.3, lent-sums _ _ _ _ c.blank.ensures c.gather-m.ensures.3, c.requires.start_lt_n.0, goals-are-nodes c.args.n _ _ _ c.requires.start_lt_n.1 (all-goals _ _ _ c.requires.room.ends_room _ c.gather-m.ensures.1)); held = lent-held _ _ _ _ c.blank.ensures c.gather-m.ensures.3 _ _ _ c.gather-m.ensures.2 }
 
 pub build_path-requires : goal.build_path-requires
 build_path-requires c =

@@ -10,7 +10,7 @@ loop-i-init c = gathering-none _ _ _ _ _ c.requires.5
 
 pub offset_bounds-list-i : goal.offset_bounds-list-i
 offset_bounds-list-i c =
-    omega (arith, c.loop-i-test.true, c.requires.2, c.well-formed.1.1.1.1.0.1)
+    omega (arith, c.loop-i-test.true, c.requires.2, c.well_formed.1.1.1.1.0.1)
 
 pub bounds-list-i : goal.bounds-list-i
 bounds-list-i c = omega (arith, c.loop-i-test.true, c.requires.2, c.loop-i.invariant.long)

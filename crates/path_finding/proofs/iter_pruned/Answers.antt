@@ -10,7 +10,7 @@ pub loop-k-init : goal.loop-k-init
 loop-k-init c = (omega arith, omega arith, pruned-begin _ _, refl)
 
 pub keep-r-requires : goal.keep-r-requires
-keep-r-requires c = ((omega (arith, c.requires, c.loop-k-test.true), omega (arith, c.requires, c.loop-k-test.true), omega (arith, c.requires, c.loop-k-test.true), omega (arith, c.requires, c.loop-k-test.true, c.loop-k.invariant.1, c.loop-k.invariant.3)), c.loop-k.invariant.2)
+keep-r-requires c = record { k_in_bounds = (omega (arith, c.requires, c.loop-k-test.true), omega (arith, c.requires, c.loop-k-test.true), omega (arith, c.requires, c.loop-k-test.true), omega (arith, c.requires, c.loop-k-test.true, c.loop-k.invariant.1, c.loop-k.invariant.3)); kept_value = c.loop-k.invariant.2 }
 
 pub overflow_add-k : goal.overflow_add-k
 overflow_add-k c = omega (arith, c.requires, c.loop-k-test.true)

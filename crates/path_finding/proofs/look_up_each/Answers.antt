@@ -12,7 +12,7 @@ pub loop-i-init : goal.loop-i-init
 loop-i-init c = (omega arith, known-begin _ _ _ _ _, table-begin _, refl)
 
 pub node_of-v-requires : goal.node_of-v-requires
-node_of-v-requires c = ((c.requires.n_bound.0, c.requires.n_bound.1, c.loop-i-test.true, omega (arith, c.loop-i-test.true, c.requires.n_bound)), c.requires.mapped)
+node_of-v-requires c = record { n_bound = (c.requires.n_bound.0, c.requires.n_bound.1, c.loop-i-test.true, omega (arith, c.loop-i-test.true, c.requires.n_bound)); mapped = c.requires.mapped }
 
 pub overflow_cast-ends : goal.overflow_cast-ends
 overflow_cast-ends c = omega (arith, c.node_of-v.ensures.1, c.requires.n_bound)

@@ -6,7 +6,7 @@ use Rattle.prune.proofs.Lent.{goes_at, prune-stays, prune-goes}
 use Rattle.prune.proofs.prune_at.Goals as goal
 
 pub returns-then-d-eq4 : goal.returns-then-d-eq4
-returns-then-d-eq4 c = (prune-stays _ (whole c.args.nodes.now) _ (omega arith) (sym c.straight-d.ensures ∙ c.if-d-eq4.true), omega arith)
+returns-then-d-eq4 c = record { nodes_value = prune-stays _ (whole c.args.nodes.now) _ (omega arith) (sym c.straight-d.ensures ∙ c.if-d-eq4.true); upper_bound = omega arith }
 
 pub link_of-a-requires : goal.link_of-a-requires
 link_of-a-requires c = let q = goes_at _ _ _ _ _ c.straight-d.ensures c.if-d-eq4.false in omega arith

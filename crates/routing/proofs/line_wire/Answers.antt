@@ -11,8 +11,7 @@ pub returns-then-path-eq1 : goal.returns-then-path-eq1
 returns-then-path-eq1 c = line-one _ _ _ _ c.if-path-eq1.true
 
 pub line_vertices-v-requires : goal.line_vertices-v-requires
-line_vertices-v-requires c =
-    (c.requires.path_on, c.requires.path_nonzero.0)
+line_vertices-v-requires c = record { path_on = c.requires.path_on; path_nonzero = c.requires.path_nonzero.0 }
 
 pub overflow_add-e : goal.overflow_add-e
 overflow_add-e c = omega (arith, c.requires.path_on.most)
@@ -25,8 +24,7 @@ pub returns-then-not-fits : goal.returns-then-not-fits
 returns-then-not-fits c = line-over _ _ _ _ c.if-path-eq1.false _ c.line_vertices-v.ensures _ c.fits2.ensures c.if-not-fits.true-raw
 
 pub push_vertices-total-requires : goal.push_vertices-total-requires
-push_vertices-total-requires c =
-    let p = c.requires in let v = fits-vertices _ _ _ _ _ c.fits2.ensures c.if-not-fits.false-raw in let e = fits-ends _ _ _ _ _ c.fits2.ensures c.if-not-fits.false-raw in (p.0, (omega (arith, p.1.1.0, c.if-path-eq1.false), (p.1.0, (omega (arith, c.line_vertices-v.ensures), (e, p.1.1.3)))))
+push_vertices-total-requires c = let p = c.requires in let v = fits-vertices _ _ _ _ _ c.fits2.ensures c.if-not-fits.false-raw in let e = fits-ends _ _ _ _ _ c.fits2.ensures c.if-not-fits.false-raw in record { path_on = p.0; in_bounds = omega (arith, p.1.1.0, c.if-path-eq1.false); room = p.1.0; path_bound = omega (arith, c.line_vertices-v.ensures); path_bound_2 = (e, p.1.1.3) }
 
 pub returns : goal.returns
 returns c =

@@ -6,14 +6,13 @@ use borrow.Author.Rules.{rules}
 use Rattle.routing.proofs.route_branch.Goals as goal
 
 pub joined_end-e-requires : goal.joined_end-e-requires
-joined_end-e-requires c = (c.requires.path_on, search rules)
+joined_end-e-requires c = record { path_on = c.requires.path_on; m_nonzero = search rules }
 
 pub route_wire-step-requires : goal.route_wire-step-requires
-route_wire-step-requires c = let p = c.requires in (p.0, (p.1.0, (p.1.1.0.0, p.1.1.0.2, p.1.1.0.3)))
+route_wire-step-requires c = let p = c.requires in record { path_on = p.0; room = p.1.0; n_bound = (p.1.1.0.0, p.1.1.0.2, p.1.1.0.3) }
 
 pub returns-then-step-ne0 : goal.returns-then-step-ne0
-returns-then-step-ne0 c =
-    (branch-tried _ _ _ _ _ _ c.joined_end-e.ensures.0 _ c.junction_of-junction.ensures _ c.route_wire-step.ensures, branch-refused _ _ _ _ _ _ c.joined_end-e.ensures.0 _ c.junction_of-junction.ensures _ c.route_wire-step.ensures _ _ c.if-step-ne0.true)
+returns-then-step-ne0 c = record { m_value = branch-tried _ _ _ _ _ _ c.joined_end-e.ensures.0 _ c.junction_of-junction.ensures _ c.route_wire-step.ensures; joins_value = branch-refused _ _ _ _ _ _ c.joined_end-e.ensures.0 _ c.junction_of-junction.ensures _ c.route_wire-step.ensures _ _ c.if-step-ne0.true }
 
 pub overflow_sub-last : goal.overflow_sub-last
 overflow_sub-last c =

@@ -7,8 +7,7 @@ use Rattle.scan.proofs.Grows.{scan-grow, build-full}
 use Rattle.scan.proofs.build_by.Goals as goal
 
 pub build_nodes-count-requires : goal.build_nodes-count-requires
-build_nodes-count-requires c =
-    (c.requires.a_bound, (c.requires.in_bounds, c.requires.keyed))
+build_nodes-count-requires c = record { a_bound = c.requires.a_bound; in_bounds = c.requires.in_bounds; keyed = c.requires.keyed }
 
 pub returns-then-count-gt-NODES : goal.returns-then-count-gt-NODES
 returns-then-count-gt-NODES c = record { full = λ h. build-full _ _ (c.build_nodes-count.ensures.built.full h); same = λ h. absurd (omega arith) }
@@ -18,8 +17,7 @@ loop-k-init c =
     (rw (← c.build_nodes-count.ensures.built.same c.if-count-gt-NODES.false) (fold-begin _ _ _ c.if-count-gt-NODES.false), search rules, omega (arith, c.requires.in_bounds, c.build_nodes-count.auto.nodes), c.build_nodes-count.ensures.keyed_2, search rules)
 
 pub scan_at-count-requires : goal.scan_at-count-requires
-scan_at-count-requires c =
-    (c.requires.paged, (c.requires.a_bound, (c.loop-k.invariant.2, (omega arith, c.loop-k.invariant.3))))
+scan_at-count-requires c = record { paged = c.requires.paged; a_bound = c.requires.a_bound; in_bounds = c.loop-k.invariant.2; n_bound = omega arith; keyed = c.loop-k.invariant.3 }
 
 pub returns-then-count-gt-NODES-2 : goal.returns-then-count-gt-NODES-2
 unfolding build

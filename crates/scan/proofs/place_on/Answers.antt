@@ -5,8 +5,7 @@ use Rattle.scan.proofs.place_on.Goals as goal
 
 pub returns-then-d-lt2 : goal.returns-then-d-lt2
 unfolding place_on find_on
-returns-then-d-lt2 c =
-    (rw (lt-ltb _ _ c.if-d-lt2.true) c.place.ensures.met, c.place.ensures.keyed_2)
+returns-then-d-lt2 c = record { met = rw (lt-ltb _ _ c.if-d-lt2.true) c.place.ensures.met; keyed_2 = c.place.ensures.keyed_2 }
 
 pub returns : goal.returns
 unfolding place_on find_on

@@ -11,13 +11,11 @@ pub loop-d-init : goal.loop-d-init
 loop-d-init c = (fold-begin _ _ _ (omega arith), omega arith, refl, c.requires.keyed, refl)
 
 pub toward-count-requires : goal.toward-count-requires
-toward-count-requires c =
-    (c.requires.paged, (omega (arith, c.requires.in_bounds, c.loop-d.invariant.2), (omega arith, c.loop-d.invariant.3)))
+toward-count-requires c = record { paged = c.requires.paged; in_bounds = omega (arith, c.requires.in_bounds, c.loop-d.invariant.2); n_bound = omega arith; keyed = c.loop-d.invariant.3 }
 
 pub returns-then-count-gt-NODES : goal.returns-then-count-gt-NODES
 unfolding scans
-returns-then-count-gt-NODES c =
-    (record { full = λ h. fold-crowded c.loop-d.invariant.0 (toward-grow _ _ _ _ _) c.loop-d-test.true (c.toward-count.ensures.built.full h); same = λ h. absurd (omega arith) }, c.toward-count.ensures.keyed_2)
+returns-then-count-gt-NODES c = record { built = record { full = λ h. fold-crowded c.loop-d.invariant.0 (toward-grow _ _ _ _ _) c.loop-d-test.true (c.toward-count.ensures.built.full h); same = λ h. absurd (omega arith) }; keyed_2 = c.toward-count.ensures.keyed_2 }
 
 pub loop-d-preserved : goal.loop-d-preserved
 loop-d-preserved c =

@@ -8,15 +8,14 @@ use Rattle.search.proofs.Lines.{searched}
 use Rattle.search.proofs.find_path.Goals as goal
 
 pub find_between-a-requires : goal.find_between-a-requires
-find_between-a-requires c =
-    (c.requires.ready, (c.requires.ended.even, c.requires.room))
+find_between-a-requires c = record { ready = c.requires.ready; ey_len = c.requires.ended.even; room = c.requires.room }
 
 pub overflow_sub-at : goal.overflow_sub-at
 overflow_sub-at c = nodes-fit _ _ _ _ _ _ _ _ c.find_between-a.ensures
 
 pub offset_bounds-list-at : goal.offset_bounds-list-at
 offset_bounds-list-at c =
-    omega (arith, c.well-formed.1.1.1.1.1.1.1.1.1.1.1.1.0.1, c.find_between-a.auto.list)
+    omega (arith, c.well_formed.1.1.1.1.1.1.1.1.1.1.1.1.0.1, c.find_between-a.auto.list)
 
 pub write_line-requires : goal.write_line-requires
 write_line-requires c =

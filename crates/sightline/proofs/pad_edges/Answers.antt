@@ -1,21 +1,15 @@
 -- The edges that were stored stand over what was there.
-use Prim.Native.Nat.{ℕ, ◌≤◌, ◌-◌}
+use Prim.Native.Nat.{◌-◌}
 use mathlib.Core.Path.{◌≡◌, refl, ◌∙◌}
-use mathlib.Core.Bool.{Bool}
-use mathlib.Core.List.{List, ◌++◌}
+use mathlib.Core.List.{List}
 use native.Mathlib.Omega.{arith}
 use lib.IntN.{ℤ}
-use lib.ListN.{length, drop}
+use lib.ListN.{length}
 use Rattle.fixed.specs.Up.{ups}
 use Rattle.fixed.proofs.Lists.{length-ups}
 use Rattle.sightline.specs.Boxes.{edges}
 use Rattle.sightline.proofs.Padding.{edges_more}
 use Rattle.sightline.proofs.pad_edges.Goals as goal
-
-record Stored (out₀ : List ℤ) (rows : List ℕ) (width field : ℕ) (high : Bool) (n : ℕ) (out : List ℤ) (i : ℕ) : Type 0 where
-  reached : i ≤ n
-  long : length out ≡ length out₀
-  over : ups out ≡ edges rows width field high i ++ drop i (ups out₀)
 
 pub loop-i-init : goal.loop-i-init
 unfolding edges

@@ -22,8 +22,7 @@ pub overflow_add-e : goal.overflow_add-e
 overflow_add-e c = omega arith
 
 pub push_node-total-requires : goal.push_node-total-requires
-push_node-total-requires c =
-    let l = c.loop-k in let L = path_line c.args.order c.args.nodes.now c.args.path.now in let t = nodes-total _ _ _ _ _ l.invariant.5 in let g = kept-most L.kinds L.ways (length c.args.path.now) l.k (omega arith) in (c.requires.path_on, ((omega arith, omega arith), (record { of_x = search rules; of_y = search rules; of_kinds = search rules }, ((omega arith, omega arith, λ f. omega (arith, kept-room _ _ (length c.args.path.now) l.k (omega arith) f)), search rules))))
+push_node-total-requires c = let l = c.loop-k in let L = path_line c.args.order c.args.nodes.now c.args.path.now in let t = nodes-total _ _ _ _ _ l.invariant.5 in let g = kept-most L.kinds L.ways (length c.args.path.now) l.k (omega arith) in record { path_on = c.requires.path_on; i_nonzero = (omega arith, omega arith); room = record { of_x = search rules; of_y = search rules; of_kinds = search rules }; n_nonzero = (omega arith, omega arith, λ f. omega (arith, kept-room _ _ (length c.args.path.now) l.k (omega arith) f)); m_bound = search rules }
 
 pub overflow_add-k-in-loop-k : goal.overflow_add-k-in-loop-k
 overflow_add-k-in-loop-k c = omega arith

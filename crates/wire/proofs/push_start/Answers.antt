@@ -5,10 +5,10 @@ use borrow.Author.Rules.{rules}
 use Rattle.wire.proofs.push_start.Goals as goal
 
 pub x_at-px-requires : goal.x_at-px-requires
-x_at-px-requires c = (c.requires.path_on, search rules)
+x_at-px-requires c = record { path_on = c.requires.path_on; k_in_bounds = search rules }
 
 pub y_at-py-requires : goal.y_at-py-requires
-y_at-py-requires c = (c.requires.path_on, search rules)
+y_at-py-requires c = record { path_on = c.requires.path_on; k_in_bounds = search rules }
 
 pub push_dummies-requires : goal.push_dummies-requires
 push_dummies-requires c = let both = (c.requires.path_on, search rules) in record { path_on = both.0; in_bounds = both.1.0; n_in_bounds = both.1.1 }

@@ -5,10 +5,10 @@ use borrow.Author.Rules.{rules}
 use Rattle.wire.proofs.push_start_ends.Goals as goal
 
 pub x_at-px-requires : goal.x_at-px-requires
-x_at-px-requires c = (c.requires.path_on, search rules)
+x_at-px-requires c = record { path_on = c.requires.path_on; k_in_bounds = search rules }
 
 pub y_at-py-requires : goal.y_at-py-requires
-y_at-py-requires c = (c.requires.path_on, search rules)
+y_at-py-requires c = record { path_on = c.requires.path_on; k_in_bounds = search rules }
 
 pub returns : goal.returns
 returns c =
