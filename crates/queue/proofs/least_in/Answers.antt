@@ -1,11 +1,11 @@
 use borrow.Author.Rules.{rules}
 use mathlib.Core.Path.{◌≡◌}
-use mathlib.Core.Logic.{⊎_elim}
 use native.Mathlib.Omega.{arith}
 use Prim.Native.Nat.{◌-◌}
 use Rattle.queue.proofs.Ranges.{leaf}
 use Rattle.queue.proofs.Steps.{join-take, join-keep}
 use Rattle.queue.proofs.least_in.Goals as goal
+use Rattle.queue.proofs.least_in.Goals.{then-x-y, else-x-y}
 
 pub loop-i-init : goal.loop-i-init
 loop-i-init c = (search rules, leaf _ _)
@@ -20,7 +20,10 @@ pub loop-i-preserved : goal.loop-i-preserved
 loop-i-preserved c =
     let b = c.loop-i in (
       search rules,
-      ⊎_elim (λ w. rw w.1 (join-take _ _ _ _ _ _ b.invariant.1 (leaf _ b.i) _ _ c.get-x.ensures c.get-y.ensures w.0.taken)) (λ w. rw w.1 (join-keep _ _ _ _ _ _ b.invariant.1 (leaf _ b.i) _ _ c.get-x.ensures c.get-y.ensures w.0.left)) c.if-x-y.branch,
+      elim c.if-x-y.branch [
+        then-x-y w ↦ rw w.best-is (join-take _ _ _ _ _ _ b.invariant.1 (leaf _ b.i) _ _ c.get-x.ensures c.get-y.ensures w.if-x-y.true)
+      | else-x-y w ↦ rw w.best-is (join-keep _ _ _ _ _ _ b.invariant.1 (leaf _ b.i) _ _ c.get-x.ensures c.get-y.ensures w.if-x-y.false)
+      ],
     )
 
 pub returns : goal.returns

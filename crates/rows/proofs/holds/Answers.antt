@@ -12,16 +12,16 @@ pub loop-i-init : goal.loop-i-init
 loop-i-init c = (search rules, refl)
 
 pub overflow_mul-r : goal.overflow_mul-r
-overflow_mul-r c = omega (arith, in_area c c.loop-i.i (omega arith))
+overflow_mul-r c = omega (arith, Rows.in_area c.args.w c.loop-i.i c.wide-n.result _ _ c.requires.0 (omega arith) c.wide-n.ensures c.requires.1)
 
 pub overflow_add-r : goal.overflow_add-r
-overflow_add-r c = omega (arith, in_area c c.loop-i.i (omega arith))
+overflow_add-r c = omega (arith, Rows.in_area c.args.w c.loop-i.i c.wide-n.result _ _ c.requires.0 (omega arith) c.wide-n.ensures c.requires.1)
 
 pub offset_bounds-area-i : goal.offset_bounds-area-i
-offset_bounds-area-i c = omega (arith, in_area c c.loop-i.i (omega arith))
+offset_bounds-area-i c = omega (arith, Rows.in_area c.args.w c.loop-i.i c.wide-n.result _ _ c.requires.0 (omega arith) c.wide-n.ensures c.requires.1)
 
 pub bounds-area-i : goal.bounds-area-i
-bounds-area-i c = in_area c c.loop-i.i (omega arith)
+bounds-area-i c = Rows.in_area c.args.w c.loop-i.i c.wide-n.result _ _ c.requires.0 (omega arith) c.wide-n.ensures c.requires.1
 
 pub loop-i-preserved : goal.loop-i-preserved
 loop-i-preserved c =
