@@ -16,7 +16,7 @@ PATH = re.compile(r"⟪(\w[^⟫]*)⟫((?:\.[\w'?₀₁₂₃-]+)*)")
 
 
 def norm(s):
-    return s.replace("_", "-")
+    return s.replace("_", "-").lower()
 
 
 class Fn:
@@ -74,6 +74,12 @@ class Fn:
                 if q:
                     return ["c", "requires"] + q
             return ["c", "requires"] + rest
+        have = {norm(self.places[q][1][2][0]) for q in self.chain(p)}
+        if norm(f) not in have:
+            for g in (re.sub(r"_lem$", "", f), re.sub(r"-?\d+$", "", f)):
+                if norm(g) in have:
+                    f = g
+                    break
         for q in self.chain(p):
             i, place = self.places[q]
             if norm(place[2][0]) != norm(f):
@@ -216,6 +222,14 @@ class Turn:
                 if rest2.startswith("\n") and head.rstrip(" ").endswith("\n"):
                     head = head.rstrip(" ").rstrip("\n")
                 t = head + rest2
+            m = re.search(r"let (" + ID + r") = (⟪[^⟫]*⟫(?:\.[\w'?-]+)+) in ?", t)
+            while m:
+                rest = t[m.end():]
+                if re.search(r"(?<![\w.'-])" + re.escape(m.group(1)) + r"\.(?:\d|requires|ensures|auto|kept|new|last|pre)(?![\w-])", rest) or re.search(r"\.(requires|pre|ensures)$", m.group(2)):
+                    rest2 = re.sub(r"(?<![\w.'-])" + re.escape(m.group(1)) + r"(?![\w'-])", lambda _: m.group(2), rest)
+                    t = re.sub(r" *$", "", t[: m.start()]) + ("" if rest2.startswith("\n") and t[: m.start()].rstrip(" ").endswith("\n") else " " if not rest2.startswith("\n") else "") + (rest2.lstrip("\n") if rest2.startswith("\n") and t[: m.start()].rstrip(" ").endswith("\n") else rest2)
+                    break
+                m = re.compile(r"let (" + ID + r") = (⟪[^⟫]*⟫(?:\.[\w'?-]+)+) in ?").search(t, m.end())
             for name, (params, body) in self.lemmas.items():
                 rx = re.compile(r"(?<![\w.'-])" + re.escape(name) + r" ⟪([^⟫]*)⟫((?: (?:" + ID + r"|\([^()]*\)|_))*)(?!\.)")
                 mm = rx.search(t)
@@ -333,7 +347,6 @@ class Turn:
             ordinal += 1
             if k is None:
                 self.fn.said.append(f"no goal for {name} ({oldname})")
-                other.append((com, lines))
                 continue
             goal = info["needs"][k][1]
             place = asked_at[k]

@@ -13,8 +13,7 @@ loop-i-init c = (search rules, search rules, nearest-begin _ _ _ _)
 
 pub distance-d-requires : goal.distance-d-requires
 distance-d-requires c =
-    let p = c.requires in
-    (p.0, rw c.wide-e.ensures (p.3 _ c.loop-i-test.true), p.1, p.2)
+    (c.requires.0, rw c.wide-e.ensures (c.requires.3 _ c.loop-i-test.true), c.requires.1, c.requires.2)
 
 pub loop-i-preserved : goal.loop-i-preserved
 loop-i-preserved c =

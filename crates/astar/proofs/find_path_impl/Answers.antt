@@ -8,13 +8,11 @@ use Rattle.astar.proofs.find_path_impl.Goals as goal
 
 pub begin-requires : goal.begin-requires
 begin-requires c =
-    let l = c.requires.1 in
-    (l.0.3, l.1.room, l.0.0, l.0.1, l.0.2, l.1.index)
+    (c.requires.cells_value.3, c.requires.held.room, c.requires.cells_value.0, c.requires.cells_value.1, c.requires.cells_value.2, c.requires.held.index)
 
 pub outer-init : goal.outer-init
 outer-init c =
-    let l = c.requires.1 in
-    (going-first _ _ (roads _ c.requires.ready.0) _ _ l.0.3 _ c.begin.ensures.cells_value, begun-held _ _ _ _ _ _ _ _ l.1 c.begin.auto.cells c.begin.ensures.indexed.0 c.begin.ensures.indexed.1 c.begin.ensures.indexed.2, refl, refl)
+    (going-first _ _ (roads _ c.requires.ready.0) _ _ c.requires.cells_value.3 _ c.begin.ensures.cells_value, begun-held _ _ _ _ _ _ _ _ c.requires.held c.begin.auto.cells c.begin.ensures.indexed.0 c.begin.ensures.indexed.1 c.begin.ensures.indexed.2, refl, refl)
 
 pub pop_least-top-requires : goal.pop_least-top-requires
 pop_least-top-requires c =

@@ -18,32 +18,28 @@ onward-requires c =
 
 pub distance-len-requires : goal.distance-len-requires
 distance-len-requires c =
-    let p = c.Pred-of.ensures in
-    let t = sym c.onward.ensures ∙ sym c.wide-w.ensures ∙ c.if-w-p.false ∙ p in
-    (c.loop-p.invariant.inside, rw p (walk-in _ c.requires.ready.0 _ _ _ _ _ c.loop-p.invariant c.requires.n_in_bounds.2 (λ z. c.if-p-eq-NOWHERE.false (p ∙ z)) t), c.requires.ready.0.wf.few, c.requires.ready.1)
+    let t = sym c.onward.ensures ∙ sym c.wide-w.ensures ∙ c.if-w-p.false ∙ c.pred_of-p.ensures in
+    (c.loop-p.invariant.inside, rw c.pred_of-p.ensures (walk-in _ c.requires.ready.0 _ _ _ _ _ c.loop-p.invariant c.requires.n_in_bounds.2 (λ z. c.if-p-eq-NOWHERE.false (c.pred_of-p.ensures ∙ z)) t), c.requires.ready.0.wf.few, c.requires.ready.1)
 
 pub overflow_add-len : goal.overflow_add-len
 overflow_add-len c =
-    let p = c.Pred-of.ensures in
-    let t = sym c.onward.ensures ∙ sym c.wide-w.ensures ∙ c.if-w-p.false ∙ p in
-    let s = walk_step _ c.requires.ready.0 _ _ _ _ _ c.loop-p.invariant c.requires.n_in_bounds.2 (λ z. c.if-p-eq-NOWHERE.false (p ∙ z)) t in
-    rw (c.distance-len.ensures.0, p) (omega (arith, s.sum, along-lt _ c.requires.ready.0 c.args.dir c.args.from))
+    let t = sym c.onward.ensures ∙ sym c.wide-w.ensures ∙ c.if-w-p.false ∙ c.pred_of-p.ensures in
+    let s = walk_step _ c.requires.ready.0 _ _ _ _ _ c.loop-p.invariant c.requires.n_in_bounds.2 (λ z. c.if-p-eq-NOWHERE.false (c.pred_of-p.ensures ∙ z)) t in
+    rw (c.distance-len.ensures.0, c.pred_of-p.ensures) (omega (arith, s.sum, along-lt _ c.requires.ready.0 c.args.dir c.args.from))
 
 pub loop-p-smaller : goal.loop-p-smaller
 loop-p-smaller c =
-    let p = c.Pred-of.ensures in
-    let t = sym c.onward.ensures ∙ sym c.wide-w.ensures ∙ c.if-w-p.false ∙ p in
-    rw p (omega (arith, walk-sum _ c.requires.ready.0 _ _ _ _ _ c.loop-p.invariant c.requires.n_in_bounds.2 (λ z. c.if-p-eq-NOWHERE.false (p ∙ z)) t, walk-pos _ c.requires.ready.0 _ _ _ _ _ c.loop-p.invariant c.requires.n_in_bounds.2 (λ z. c.if-p-eq-NOWHERE.false (p ∙ z)) t))
+    let t = sym c.onward.ensures ∙ sym c.wide-w.ensures ∙ c.if-w-p.false ∙ c.pred_of-p.ensures in
+    rw c.pred_of-p.ensures (omega (arith, walk-sum _ c.requires.ready.0 _ _ _ _ _ c.loop-p.invariant c.requires.n_in_bounds.2 (λ z. c.if-p-eq-NOWHERE.false (c.pred_of-p.ensures ∙ z)) t, walk-pos _ c.requires.ready.0 _ _ _ _ _ c.loop-p.invariant c.requires.n_in_bounds.2 (λ z. c.if-p-eq-NOWHERE.false (c.pred_of-p.ensures ∙ z)) t))
 
 pub loop-p-preserved : goal.loop-p-preserved
 loop-p-preserved c =
-    let p = c.Pred-of.ensures in
-    let t = sym c.onward.ensures ∙ sym c.wide-w.ensures ∙ c.if-w-p.false ∙ p in
-    rw (c.distance-len.ensures.0, p) (walk_step _ c.requires.ready.0 _ _ _ _ _ c.loop-p.invariant c.requires.n_in_bounds.2 (λ z. c.if-p-eq-NOWHERE.false (p ∙ z)) t)
+    let t = sym c.onward.ensures ∙ sym c.wide-w.ensures ∙ c.if-w-p.false ∙ c.pred_of-p.ensures in
+    rw (c.distance-len.ensures.0, c.pred_of-p.ensures) (walk_step _ c.requires.ready.0 _ _ _ _ _ c.loop-p.invariant c.requires.n_in_bounds.2 (λ z. c.if-p-eq-NOWHERE.false (c.pred_of-p.ensures ∙ z)) t)
 
 pub returns-then-p-eq-NOWHERE : goal.returns-then-p-eq-NOWHERE
-returns-then-p-eq-NOWHERE c = walk_none _ c.requires.ready.0 _ _ _ _ _ c.loop-p.invariant (sym c.Pred-of.ensures ∙ c.if-p-eq-NOWHERE.true)
+returns-then-p-eq-NOWHERE c = walk_none _ c.requires.ready.0 _ _ _ _ _ c.loop-p.invariant (sym c.pred_of-p.ensures ∙ c.if-p-eq-NOWHERE.true)
 
 pub returns-then-w-p : goal.returns-then-w-p
 returns-then-w-p c =
-    walk_turn _ c.requires.ready.0 _ _ _ _ _ c.loop-p.invariant (λ z. c.if-p-eq-NOWHERE.false (c.Pred-of.ensures ∙ z)) (λ z. c.if-w-p.true (c.wide-w.ensures ∙ c.onward.ensures ∙ z ∙ sym c.Pred-of.ensures))
+    walk_turn _ c.requires.ready.0 _ _ _ _ _ c.loop-p.invariant (λ z. c.if-p-eq-NOWHERE.false (c.pred_of-p.ensures ∙ z)) (λ z. c.if-w-p.true (c.wide-w.ensures ∙ c.onward.ensures ∙ z ∙ sym c.pred_of-p.ensures))

@@ -2,20 +2,10 @@
 use mathlib.Core.Path.{refl}
 use Prim.Native.Nat.{◌-◌, ◌+◌}
 use native.Mathlib.Omega.{arith}
-use borrow.Author.Rules.{rules}
 use Rattle.book.specs.Book.{width}
 use Rattle.block.specs.Block.{size}
 use Rattle.block.proofs.Blocks
 use Rattle.block.proofs.holds.Goals as goal
-
-add_holds : tie.Need-overflow-add-holds
-add_holds c = omega (arith, Blocks.within c.before.before.before.args.kind)
-
-mul_holds : tie.Need-overflow-mul-holds
-mul_holds c = omega (arith, Blocks.within c.before.before.before.args.kind)
-
-sub_holds : tie.Need-overflow-sub-holds
-sub_holds c = search rules
 
 pub slice_bounds-holds-end : goal.slice_bounds-holds-end
 slice_bounds-holds-end c =

@@ -21,4 +21,4 @@ cut_record-requires c = record { counted = Taken.counted c.args.kind c.args.blk.
 
 pub returns : goal.returns
 returns c = record { value = Taken.out-free _ _ c.requires.0 c.requires.1 _ c.records-n.ensures c.if-n-eq0.false _ c.is_held.ensures
-          c.if-is_held.false; blk_after = λ z. Taken.is-out _ _ c.requires.0 c.requires.1 _ c.records-n.ensures _ c.Cut-record.ensures }
+          c.if-is_held.false; blk_after = λ z. Taken.is-out _ _ c.requires.0 c.requires.1 _ c.records-n.ensures _ c.cut_record.ensures }

@@ -27,7 +27,7 @@ returns-then-not-ok_block c =
 pub ok_entries-requires : goal.ok_entries-requires
 unfolding block part
 ok_entries-requires c =
-    (
+ (
       search rules,
       omega arith,
       Whole.copy-long c.args.desk.now c.requires _ _ refl c.put.ensures,

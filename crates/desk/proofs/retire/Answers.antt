@@ -50,4 +50,4 @@ returns c = let both = let s = Whole.sound-at _ _ c.validate-sound.ensures c.if-
     let e = Whole.long-retired _ s k _ (Whole.spot-here _ s k _ _ _ c.leave_number-number.ensures c.if-number-ne0.false c.spot-i.ensures) in
     Whole.says-0 _ _ c.validate-sound.ensures _ _ _ c.if-sound-ne0.false _ c.leave_number-number.ensures c.if-number-ne0.false _
     (Whole.retired-at _ k _ _ _ c.spot-i.ensures
-    (Whole.changed _ s _ _ e c.lay_retired.ensures (without_row k c.spot-i.result) _ c.Cut-record.ensures)) in record { value = both.0; desk_after = both.1 }
+    (Whole.changed _ s _ _ e c.lay_retired.ensures (without_row k c.spot-i.result) _ c.cut_record.ensures)) in record { value = both.0; desk_after = both.1 }

@@ -22,7 +22,7 @@ slice_bounds-put_back-end c =
 
 pub put_back-requires : goal.put_back-requires
 put_back-requires c =
-    (
+ (
       c.requires.0,
       c.requires.1,
       Words.row-there c.kind_of-kind.result c.args.entry.now c.width.result

@@ -11,13 +11,11 @@ overflow_cast-key c = omega (arith, (c.requires.movable.keyed.each _ c.requires.
 
 pub shifted-c-requires : goal.shifted-c-requires
 shifted-c-requires c =
-    let p = c.requires in
-    let ok = p.1.0.keyed.each _ p.1.1 in
-    (p.1.0.small _ p.1.1, ok.low, ok.high)
+    let ok = c.requires.movable.keyed.each _ c.requires.k_in_bounds in
+    (c.requires.movable.small _ c.requires.k_in_bounds, ok.low, ok.high)
 
 pub move_pair-requires : goal.move_pair-requires
-move_pair-requires c = let p = c.requires in
-    let ok = p.1.0.keyed.each _ p.1.1 in record { joined = p.0; y_len = (p.1.0.paired, p.1.0.known, rw c.pair_of-i.ensures.0 ok.on) }
+move_pair-requires c = let ok = c.requires.movable.keyed.each _ c.requires.k_in_bounds in record { joined = c.requires.joined; y_len = (c.requires.movable.paired, c.requires.movable.known, rw c.pair_of-i.ensures.0 ok.on) }
 
 pub returns : goal.returns
 returns c = move-at-on _ _ _ _ _ _ _ c.if-t-eq0.false _ _ _ c.pair_of-i.ensures.0 c.shifted-c.ensures c.move_pair.ensures

@@ -8,9 +8,7 @@ use native.Mathlib.Omega.{arith}
 use Rattle.fixup.proofs.move_junctions.Goals as goal
 
 pub move_side-requires-2 : goal.move_side-requires-2
-move_side-requires-2 c = let p = c.requires in
-    let kept = c.move_side.auto in
-    let same = kept.0 in record { joined = joined-kept _ _ _ same p.0; room = record { paired = kept.1.0 ∙ p.1.0 ∙ sym same; known = omega (arith, p.1.1); from = omega arith; to = omega arith; inside = omega (arith, p.1.2) } }
+move_side-requires-2 c = let same = c.move_side.auto.x in record { joined = joined-kept _ _ _ same c.requires.joined; room = record { paired = c.move_side.auto.y ∙ c.requires.y_len.0 ∙ sym same; known = omega (arith, c.requires.y_len.1); from = omega arith; to = omega arith; inside = omega (arith, c.requires.y_len.2) } }
 
 pub returns : goal.returns
 returns c =

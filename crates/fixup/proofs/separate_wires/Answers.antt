@@ -12,23 +12,20 @@ use Prim.Native.Nat.{ℕ}
 use Rattle.fixup.proofs.separate_wires.Goals as goal
 
 pub gather-h-requires : goal.gather-h-requires
-gather-h-requires c = let p = c.requires in record { joined = joined-kept _ _ _ p.1.0.0 p.0; along_len = (sym p.1.0.0, omega (arith, p.1.0.0, p.1.0.1), omega (arith, p.1.0.0, p.1.0.2)); in_bounds = (omega arith, omega arith, omega arith) }
+gather-h-requires c = record { joined = joined-kept _ _ _ c.requires.y_len.0 c.requires.joined; along_len = (sym c.requires.y_len.0, omega (arith, c.requires.y_len.0, c.requires.y_len.1), omega (arith, c.requires.y_len.0, c.requires.y_len.2)); in_bounds = (omega arith, omega arith, omega arith) }
 
 pub gather-v-requires : goal.gather-v-requires
-gather-v-requires c = let p = c.requires in record { joined = p.0; along_len = (p.1.0.0, p.1.0.1, p.1.0.2); in_bounds = (omega arith, omega arith, omega arith) }
+gather-v-requires c = record { joined = c.requires.joined; along_len = (c.requires.y_len.0, c.requires.y_len.1, c.requires.y_len.2); in_bounds = (omega arith, omega arith, omega arith) }
 
 pub separate_gathered-requires : goal.separate_gathered-requires
-separate_gathered-requires c = let p = c.requires in
-    let x : List ℤ = c.args.x.now in
+separate_gathered-requires c = let x : List ℤ = c.args.x.now in
     let y : List ℤ = c.args.y.now in
-    let h = c.gather-h in
-    let v = c.gather-v in
     let zeros = length-replicate {A = ℕ} 512 0 in
-    let h-few = h.ensures.1 in
-    let v-few = v.ensures.1 in record { joined = p.0; y_len = (p.1.0.0, p.1.0.1); listed = (
-            is-listed _ _ _ _ _ _ (length-ups y) _ h.ensures.0 (length x) p.1.0.0 p.1.0.2 p.1.1.1,
-            is-listed _ _ _ _ _ _ (length-ups x) _ v.ensures.0 (length x) refl p.1.0.2 p.1.1.0,
-          ); h_bound = (omega arith, omega (arith, h.auto.1.1.1.1.1.0), omega (arith, h.auto.1.1.1.1.1.1.0), omega (arith, h.auto.1.1.1.1.1.1.1.0)); v_bound = (omega arith, omega (arith, v.auto.1.1.1.1.1.0), omega (arith, v.auto.1.1.1.1.1.1.0), omega (arith, v.auto.1.1.1.1.1.1.1.0)) }
+    let h-few = c.gather-h.ensures.1 in
+    let v-few = c.gather-v.ensures.1 in record { joined = c.requires.joined; y_len = (c.requires.y_len.0, c.requires.y_len.1); listed = (
+            is-listed _ _ _ _ _ _ (length-ups y) _ c.gather-h.ensures.0 (length x) c.requires.y_len.0 c.requires.y_len.2 c.requires.within.1,
+            is-listed _ _ _ _ _ _ (length-ups x) _ c.gather-v.ensures.0 (length x) refl c.requires.y_len.2 c.requires.within.0,
+          ); h_bound = (omega arith, omega (arith, c.gather-h.auto.keys), omega (arith, c.gather-h.auto.low), omega (arith, c.gather-h.auto.high)); v_bound = (omega arith, omega (arith, c.gather-v.auto.keys), omega (arith, c.gather-v.auto.low), omega (arith, c.gather-v.auto.high)) }
 
 pub returns : goal.returns
 returns c =

@@ -4,11 +4,7 @@ use native.Mathlib.Omega.{arith}
 use Rattle.decimals.specs.Write.{digits}
 use Rattle.listing.specs.Listing.{net_line}
 use Rattle.listing.proofs.Pieces.{net-pieces, net-room, put_4}
-use borrow.Author.Rules.{rules}
 use Rattle.listing.proofs.put_net_line.Goals as goal
-
-slice-aggregate-put-bytes : tie.Need-slice-aggregate-put-bytes
-slice-aggregate-put-bytes c = search rules
 
 pub put_bytes-word-requires : goal.put_bytes-word-requires
 unfolding net_line

@@ -3,15 +3,11 @@ use mathlib.Core.List.{[], ◌∷◌}
 use Rattle.decimals.specs.Write.{digits, digits_in, tabbed}
 use Rattle.listing.specs.Listing.{line, crowded_line}
 use Rattle.listing.proofs.Room.{first}
-use borrow.Author.Rules.{rules}
 use Rattle.listing.proofs.write_crowded.Goals as goal
 
 bytes : crowded_line ≡ 112 ∷ 97 ∷ 103 ∷ 101 ∷ 9 ∷ 56 ∷ 10 ∷ []
 unfolding crowded_line line tabbed digits digits_in
 bytes = refl
-
-slice-aggregate-put-bytes : tie.Need-slice-aggregate-put-bytes
-slice-aggregate-put-bytes c = search rules
 
 pub put_bytes-requires : goal.put_bytes-requires
 put_bytes-requires c = rw bytes at c.requires

@@ -5,11 +5,7 @@ use Rattle.decimals.specs.Write.{digits}
 use Rattle.listing.specs.Listing.{refused_line}
 use Rattle.listing.proofs.Pieces.{pair-room}
 use Rattle.listing.proofs.Room.{refused-room, refused-put, first}
-use borrow.Author.Rules.{rules}
 use Rattle.listing.proofs.write_refused.Goals as goal
-
-slice-aggregate-put-bytes : tie.Need-slice-aggregate-put-bytes
-slice-aggregate-put-bytes c = search rules
 
 pub put_bytes-word-requires : goal.put_bytes-word-requires
 put_bytes-word-requires c = omega (arith, c.requires)

@@ -1,18 +1,5 @@
 use Rattle.page_line.specs.Records.{kind_of}
-use borrow.Author.Rules.{rules}
 use Rattle.page_line.proofs.kind_of.Goals as goal
-
-slice-aggregate-same-bytes : tie.Need-slice-aggregate-same-bytes
-slice-aggregate-same-bytes c = search rules
-
-slice-aggregate-same-bytes-2 : tie.Need-slice-aggregate-same-bytes-2
-slice-aggregate-same-bytes-2 c = search rules
-
-slice-aggregate-same-bytes-3 : tie.Need-slice-aggregate-same-bytes-3
-slice-aggregate-same-bytes-3 c = search rules
-
-slice-aggregate-same-bytes-4 : tie.Need-slice-aggregate-same-bytes-4
-slice-aggregate-same-bytes-4 c = search rules
 
 pub returns-then-same_bytes : goal.returns-then-same_bytes
 unfolding kind_of

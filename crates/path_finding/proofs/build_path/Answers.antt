@@ -27,10 +27,10 @@ pub loop-p-smaller : goal.loop-p-smaller
 loop-p-smaller c = omega (arith, trace-pos _ _ _ _ _ _ _ c.loop-p.invariant)
 
 pub loop-p-preserved : goal.loop-p-preserved
-loop-p-preserved c = rw c.Pred-of.ensures (trace-step _ _ _ _ _ _ _ c.loop-p.invariant (λ z. c.if-p-eq-NOWHERE.false (c.Pred-of.ensures ∙ z)))
+loop-p-preserved c = rw c.pred_of-p.ensures (trace-step _ _ _ _ _ _ _ c.loop-p.invariant (λ z. c.if-p-eq-NOWHERE.false (c.pred_of-p.ensures ∙ z)))
 
 pub shape_of-list : goal.shape_of-list
 shape_of-list c = simp length-set c.loop-p.invariant.len
 
 pub returns : goal.returns
-returns c = (simp length-set (omega (arith, c.loop-p.invariant.inside, c.loop-p.invariant.len)), trace-last _ _ _ _ _ _ _ c.loop-p.invariant (sym c.Pred-of.ensures ∙ c.if-p-eq-NOWHERE.true))
+returns c = (simp length-set (omega (arith, c.loop-p.invariant.inside, c.loop-p.invariant.len)), trace-last _ _ _ _ _ _ _ c.loop-p.invariant (sym c.pred_of-p.ensures ∙ c.if-p-eq-NOWHERE.true))

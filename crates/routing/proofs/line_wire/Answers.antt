@@ -18,14 +18,14 @@ overflow_add-e c = omega (arith, c.requires.path_on.most)
 
 pub fits-requires : goal.fits-requires
 fits-requires c =
-    let p = c.requires in let L = path_line c.args.order c.args.nodes.now c.args.path.now in let k = kept-le L.kinds L.ways (length c.args.path.now - 1) in (p.1.1.1, omega (arith, c.line_vertices-v.ensures, p.0.most), p.1.1.2, omega (arith, p.0.most))
+ let L = path_line c.args.order c.args.nodes.now c.args.path.now in let k = kept-le L.kinds L.ways (length c.args.path.now - 1) in (c.requires.path_nonzero.1, omega (arith, c.line_vertices-v.ensures, c.requires.path_on.most), c.requires.path_nonzero.2, omega (arith, c.requires.path_on.most))
 
 pub returns-then-not-fits : goal.returns-then-not-fits
-returns-then-not-fits c = line-over _ _ _ _ c.if-path-eq1.false _ c.line_vertices-v.ensures _ c.fits2.ensures c.if-not-fits.true-raw
+returns-then-not-fits c = line-over _ _ _ _ c.if-path-eq1.false _ c.line_vertices-v.ensures _ c.fits.ensures c.if-not-fits.true-raw
 
 pub push_vertices-total-requires : goal.push_vertices-total-requires
-push_vertices-total-requires c = let p = c.requires in let v = fits-vertices _ _ _ _ _ c.fits2.ensures c.if-not-fits.false-raw in let e = fits-ends _ _ _ _ _ c.fits2.ensures c.if-not-fits.false-raw in record { path_on = p.0; in_bounds = omega (arith, p.1.1.0, c.if-path-eq1.false); room = p.1.0; path_bound = omega (arith, c.line_vertices-v.ensures); path_bound_2 = (e, p.1.1.3) }
+push_vertices-total-requires c = let v = fits-vertices _ _ _ _ _ c.fits.ensures c.if-not-fits.false-raw in let e = fits-ends _ _ _ _ _ c.fits.ensures c.if-not-fits.false-raw in record { path_on = c.requires.path_on; in_bounds = omega (arith, c.requires.path_nonzero.0, c.if-path-eq1.false); room = c.requires.room; path_bound = omega (arith, c.line_vertices-v.ensures); path_bound_2 = (e, c.requires.path_nonzero.3) }
 
 pub returns : goal.returns
 returns c =
-    line-done _ _ _ _ c.if-path-eq1.false _ c.line_vertices-v.ensures _ c.fits2.ensures _ c.if-not-fits.false-raw c.push_vertices-total.ensures
+    line-done _ _ _ _ c.if-path-eq1.false _ c.line_vertices-v.ensures _ c.fits.ensures _ c.if-not-fits.false-raw c.push_vertices-total.ensures

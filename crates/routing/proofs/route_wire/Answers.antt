@@ -8,7 +8,7 @@ returns-then-path-eq0 c =
     route-fallback _ _ _ _ _ _ _ _ _ _ c.if-path-eq0.true c.fallback_wire.ensures
 
 pub line_wire-requires : goal.line_wire-requires
-line_wire-requires c = let p = c.requires in record { path_on = p.0; room = p.1.0; path_nonzero = (omega (arith, c.if-path-eq0.false), p.1.1.0, p.1.1.1, p.1.1.2) }
+line_wire-requires c = record { path_on = c.requires.path_on; room = c.requires.room; path_nonzero = (omega (arith, c.if-path-eq0.false), c.requires.n_bound.0, c.requires.n_bound.1, c.requires.n_bound.2) }
 
 pub returns : goal.returns
 returns c =

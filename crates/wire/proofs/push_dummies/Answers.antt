@@ -18,9 +18,8 @@ y_at-requires c = record { path_on = c.requires.path_on; k_in_bounds = search ru
 
 pub push_vertex-requires : goal.push_vertex-requires
 push_vertex-requires c =
-    let s = c.requires.n_in_bounds in
     let e = c.push_vertex-first.ensures.0 in
-    (omega (arith, e, s.0, c.push_vertex-first.auto.x), omega (arith, e, s.1, c.push_vertex-first.auto.y), omega (arith, e, s.2, c.push_vertex-first.auto.letters))
+    (omega (arith, e, c.requires.n_in_bounds.0, c.push_vertex-first.auto.x), omega (arith, e, c.requires.n_in_bounds.1, c.push_vertex-first.auto.y), omega (arith, e, c.requires.n_in_bounds.2, c.push_vertex-first.auto.letters))
 
 pub returns : goal.returns
 returns c =

@@ -32,7 +32,7 @@ loop-k-smaller c = omega arith
 
 pub loop-k-preserved : goal.loop-k-preserved
 loop-k-preserved c =
-    let l = c.loop-k in let p = c.push_node-total in (omega arith, c.push_node-total.auto.x ∙ l.invariant.1, c.push_node-total.auto.y ∙ l.invariant.2, c.push_node-total.auto.letters ∙ l.invariant.3, c.push_node-total.auto.ends ∙ l.invariant.4, nodes-more _ _ _ _ _ _ _ _ l.invariant.5 p.ensures)
+    let l = c.loop-k in (omega arith, c.push_node-total.auto.x ∙ l.invariant.1, c.push_node-total.auto.y ∙ l.invariant.2, c.push_node-total.auto.letters ∙ l.invariant.3, c.push_node-total.auto.ends ∙ l.invariant.4, nodes-more _ _ _ _ _ _ _ _ l.invariant.5 c.push_node-total.ensures)
 
 pub shape_of-x : goal.shape_of-x
 shape_of-x c = c.loop-k.invariant.1

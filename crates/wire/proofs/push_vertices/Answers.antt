@@ -11,7 +11,7 @@ pub push_start_ends-from-requires : goal.push_start_ends-from-requires
 push_start_ends-from-requires c = let both = (c.requires.path_on, search rules) in record { path_on = both.0; path_nonzero = both.1.0; m_bound = both.1.1 }
 
 pub push_nodes-requires : goal.push_nodes-requires
-push_nodes-requires c = let s = c.requires in record { path_on = s.0; in_bounds = s.1.0; room = room-kept c.push_start-first.auto.x c.push_start-first.auto.y c.push_start-first.auto.letters s.1.1.0; n_nonzero = (omega (arith, c.push_start-first.ensures.0), omega (arith, c.push_start-first.ensures.0, s.1.1.1.0)); path_bound = (omega (arith, c.push_start_ends-from.ensures.0, s.1.1.1.1.0, s.1.0), omega (arith, c.push_start_ends-from.auto.ends, s.1.1.1.1.1)) }
+push_nodes-requires c = record { path_on = c.requires.path_on; in_bounds = c.requires.in_bounds; room = room-kept c.push_start-first.auto.x c.push_start-first.auto.y c.push_start-first.auto.letters c.requires.room; n_nonzero = (omega (arith, c.push_start-first.ensures.0), omega (arith, c.push_start-first.ensures.0, c.requires.path_bound)); path_bound = (omega (arith, c.push_start_ends-from.ensures.0, c.requires.path_bound_2.0, c.requires.in_bounds), omega (arith, c.push_start_ends-from.auto.ends, c.requires.path_bound_2.1)) }
 
 pub returns : goal.returns
 returns c =
