@@ -169,7 +169,12 @@ def split_tuple(s):
     return [p.strip() for p in parts] if len(parts) > 1 else None
 
 
+TACTIC = re.compile(r"^(search rules|omega arith|omega \(.*\)|grind .*)$", re.S)
+
+
 def nest(s, n):
+    if n > 1 and TACTIC.match(s.strip()) and (split_tuple("(" + s.strip() + ")") is None):
+        return [s.strip()] * n
     parts = split_tuple(s)
     if parts is None:
         return None
@@ -381,7 +386,7 @@ class Turn:
             self.fn.said.append(f"invariant {loop}: {len(args)} arguments for {n} and {len(cur)}")
         for a, v in zip(args[n:], cur):
             names[a] = f"l.{v}"
-        body = re.sub(r"(?<![\w.'-])" + ID, lambda k: names.get(k.group(0), k.group(0)), body)
+        body = re.sub(r"(?<![\w.'-])" + ID + r"(?! = )", lambda k: names.get(k.group(0), k.group(0)), body)
         word = f"{kind}-{new}"
         return [f"abbrev pub {word} : goal.{word}"] + ([unf.strip()] if unf else []) + [f"{word} l ={body}"]
 

@@ -1,12 +1,12 @@
 -- The best of the ends passed and the nearest of those left give the nearest of all.
 use borrow.Author.Rules.{rules}
-use mathlib.Core.Logic.{⊎_elim}
 use native.Mathlib.Omega.{arith}
 use Prim.Native.Nat.{◌-◌}
 use lib.ListN.{take}
 use Rattle.astar.specs.Search.{nearest}
 use Rattle.astar.proofs.Laws.{nearest-begin, nearest-take, nearest-keep, nearest-done}
 use Rattle.astar.proofs.estimate.Goals as goal
+use Rattle.astar.proofs.estimate.Goals.{else-d-best, then-d-best}
 
 pub loop-i-init : goal.loop-i-init
 loop-i-init c = (search rules, search rules, nearest-begin _ _ _ _)
@@ -20,8 +20,8 @@ loop-i-preserved c =
     let b = c.loop-i in
     let d = c.distance-d.ensures.0 in (
       search rules,
-      ⊎_elim (λ w. omega (arith, c.distance-d.ensures.1)) (λ w. omega (arith, b.invariant.1)) c.if-d-best.branch,
-      ⊎_elim (λ w. rw w.1 (nearest-take _ _ _ _ _ _ _ c.loop-i-test.true b.invariant.2 (rw c.wide-e.ensures at d) w.0.taken)) (λ w. rw w.1 (nearest-keep _ _ _ _ _ _ _ c.loop-i-test.true b.invariant.2 (rw c.wide-e.ensures at d) w.0.left)) c.if-d-best.branch,
+      (elim c.if-d-best.branch [ then-d-best w ↦ omega (arith, c.distance-d.ensures.1) | else-d-best w ↦ omega (arith, b.invariant.1) ]),
+      (elim c.if-d-best.branch [ then-d-best w ↦ rw w.best-is (nearest-take _ _ _ _ _ _ _ c.loop-i-test.true b.invariant.2 (rw c.wide-e.ensures at d) w.if-d-best.true) | else-d-best w ↦ rw w.best-is (nearest-keep _ _ _ _ _ _ _ c.loop-i-test.true b.invariant.2 (rw c.wide-e.ensures at d) w.if-d-best.false) ]),
     )
 
 pub returns : goal.returns

@@ -21,7 +21,7 @@ pub overflow_add-d-2 : goal.overflow_add-d-2
 overflow_add-d-2 c = let q = goes_at _ _ _ _ _ c.straight-d.ensures c.if-d-eq4.false in omega arith
 
 pub link-requires : goal.link-requires
-link-requires c = let both = let q = goes_at _ _ _ _ _ c.straight-d.ensures c.if-d-eq4.false in omega (arith, c.link_of-a.ensures, c.link_of-b.ensures) in record { d_bound = both.0; in_bounds = both.1 }
+link-requires c = let q = goes_at _ _ _ _ _ c.straight-d.ensures c.if-d-eq4.false in record { d_bound = omega (arith, c.link_of-a.ensures, c.link_of-b.ensures); in_bounds = omega (arith, c.link_of-a.ensures, c.link_of-b.ensures) }
 
 pub returns : goal.returns
 returns c = let q = goes_at _ _ _ _ _ c.straight-d.ensures c.if-d-eq4.false in record { nodes_value = c.drop_node.ensures ∙ prune-goes _ _ _ _ _ _ _ (omega arith) c.straight-d.ensures c.if-d-eq4.false q.low c.link_of-a.ensures c.link_of-b.ensures c.link.ensures; upper_bound = omega arith }

@@ -3,16 +3,16 @@ use Rattle.wire.proofs.Seeking.{nearest-take, nearest-keep, nearest_zero}
 use Rattle.wire.specs.Ends.{nearest_end}
 use Prim.Native.Nat.{◌-◌}
 use borrow.Author.Rules.{rules}
-use mathlib.Core.Logic.{⊎_elim}
 use mathlib.Core.Path.{◌≡◌, ◌∙◌, ap}
 use native.Mathlib.Omega.{arith}
 use Rattle.wire.proofs.nearest_end.Goals as goal
+use Rattle.wire.proofs.nearest_end.Goals.{else-end_distance, then-end_distance}
 
 pub loop-i-init : goal.loop-i-init
 loop-i-init c = (search rules, nearest_zero _ _ _, search rules)
 
 pub loop-i-preserved : goal.loop-i-preserved
-loop-i-preserved c = let l = c.loop-i in (search rules, ⊎_elim (λ w. w.1 ∙ nearest-take _ _ _ l.i l.best (l.invariant).1 _ _ c.end_distance.ensures c.end_distance-in-loop-i.ensures w.0.taken) (λ w. w.1 ∙ nearest-keep _ _ _ l.i l.best (l.invariant).1 _ _ c.end_distance.ensures c.end_distance-in-loop-i.ensures w.0.left) c.if-end_distance.branch, ⊎_elim (λ w. omega arith) (λ w. omega arith) c.if-end_distance.branch)
+loop-i-preserved c = let l = c.loop-i in (search rules, (elim c.if-end_distance.branch [ then-end_distance w ↦ w.best-is ∙ nearest-take _ _ _ l.i l.best (l.invariant).1 _ _ c.end_distance.ensures c.end_distance-in-loop-i.ensures w.if-end_distance.true | else-end_distance w ↦ w.best-is ∙ nearest-keep _ _ _ l.i l.best (l.invariant).1 _ _ c.end_distance.ensures c.end_distance-in-loop-i.ensures w.if-end_distance.false ]), (elim c.if-end_distance.branch [ then-end_distance w ↦ omega arith | else-end_distance w ↦ omega arith ]))
 
 pub returns : goal.returns
 returns c = let h : c.loop-i.i ≡ c.args.count = omega arith in

@@ -19,7 +19,7 @@ returns-then-is_straight c =
     node-straight _ _ _ _ _ _ c.x_at-px.ensures c.y_at-py.ensures _ c.is_straight.ensures _ _ c.if-is_straight.true c.push_end.ensures.0 c.push_end.ensures.1
 
 pub push_corner-requires : goal.push_corner-requires
-push_corner-requires c = let both = let h : c.args.n < 512 = c.requires.n_nonzero.2 (sym c.is_straight.ensures ∙ c.if-is_straight.false) in search rules in record { n_bound = both.0; m_bound = both.1 }
+push_corner-requires c = let h : c.args.n < 512 = c.requires.n_nonzero.2 (sym c.is_straight.ensures ∙ c.if-is_straight.false) in record { n_bound = search rules; m_bound = search rules }
 
 pub returns : goal.returns
 returns c =

@@ -11,7 +11,7 @@ pub y_at-py-requires : goal.y_at-py-requires
 y_at-py-requires c = record { path_on = c.requires.path_on; k_in_bounds = search rules }
 
 pub push_dummies-requires : goal.push_dummies-requires
-push_dummies-requires c = let both = (c.requires.path_on, search rules) in record { path_on = both.0; in_bounds = both.1.0; n_in_bounds = both.1.1 }
+push_dummies-requires c = record { path_on = c.requires.path_on; in_bounds = search rules; n_in_bounds = search rules }
 
 pub returns : goal.returns
 returns c =
