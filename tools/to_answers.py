@@ -19,6 +19,11 @@ def norm(s):
     return s.replace("_", "-").lower()
 
 
+def pair(parts):
+    """Clauses that were one nested pair, as that pair."""
+    return parts[0] if len(parts) == 1 else f"({parts[0]}, {pair(parts[1:])})"
+
+
 class Fn:
     def __init__(self, crate, name, info):
         self.crate, self.name, self.info = crate, name, info
@@ -73,6 +78,8 @@ class Fn:
                 q = self.pick(pre["fields"], rest)
                 if q:
                     return ["c", "requires"] + q
+            if pre and not rest:
+                return [pair([f"c.requires.{x}" for x in pre["fields"]])]
             return ["c", "requires"] + rest
         have = {norm(self.places[q][1][2][0]) for q in self.chain(p)}
         if norm(f) not in have:
@@ -104,6 +111,8 @@ class Fn:
                     w = self.pick(cl["fields"], rest[1:])
                     if w:
                         rest = ["ensures"] + w
+                elif cl:
+                    return [pair([f"c.{new}.ensures.{x}" for x in cl["fields"]])]
             if rest and rest[0] in ("auto", "kept", "new", "last") and place[3]:
                 params = self.info["params"].get(place[3])
                 word = {"kept": "auto", "last": "new"}.get(rest[0], rest[0])

@@ -8,4 +8,4 @@ use Rattle.clue_desk.proofs.add_port.Goals as goal
 
 pub returns : goal.returns
 returns c = let both = as_called _ _ c.args.desk.now _ _ (point-call Kind.Port _ _ _ _ _ _ (to_z-of_z w32 c.args.x c.ranges.x) (to_z-of_z w32 c.args.y c.ranges.y))
-    c.add_port.ensures in record { value = both.0; desk_value = both.1 }
+    (c.add_port.ensures.value, c.add_port.ensures.desk_after) in record { value = both.0; desk_value = both.1 }

@@ -6,4 +6,4 @@ use Rattle.clue_desk.proofs.search.Goals as goal
 
 pub returns : goal.returns
 returns c = let both = search-called c.args.desk.now _ _ _ _ _ _ c.args.x c.args.y _ _ (to_z-of_z w32 c.args.x c.ranges.x) (to_z-of_z w32 c.args.y c.ranges.y)
-    c.search.ensures in record { value = both.0; dirs_value = both.1 }
+    (c.search.ensures.value, c.search.ensures.dirs_after) in record { value = both.0; dirs_value = both.1 }

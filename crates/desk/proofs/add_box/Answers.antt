@@ -9,4 +9,4 @@ use Rattle.desk.proofs.add_box.Goals as goal
 pub returns : goal.returns
 returns c = let both = Whole.as_called _ _ _ _ _ (Whole.box-call _ _ _ _ _ _ _ _ _ (c.up.ensures ∙ ap up (to_z-of_z w32 _ c.ranges.x0))
     (c.up-2.ensures ∙ ap up (to_z-of_z w32 _ c.ranges.y0)) (c.up-3.ensures ∙ ap up (to_z-of_z w32 _ c.ranges.x1))
-    (c.up-4.ensures ∙ ap up (to_z-of_z w32 _ c.ranges.y1))) c.add.ensures in record { value = both.0; desk_after = both.1 }
+    (c.up-4.ensures ∙ ap up (to_z-of_z w32 _ c.ranges.y1))) (c.add.ensures.value, c.add.ensures.desk_after) in record { value = both.0; desk_after = both.1 }

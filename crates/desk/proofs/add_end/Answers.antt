@@ -9,4 +9,4 @@ use Rattle.desk.proofs.add_end.Goals as goal
 
 pub returns : goal.returns
 returns c = let both = Whole.as_called _ _ _ _ _ (Whole.point-call Kind.End _ _ _ _ _ _ (c.up.ensures ∙ ap up (to_z-of_z w32 _ c.ranges.x))
-    (c.up-2.ensures ∙ ap up (to_z-of_z w32 _ c.ranges.y))) c.add.ensures in record { value = both.0; desk_after = both.1 }
+    (c.up-2.ensures ∙ ap up (to_z-of_z w32 _ c.ranges.y))) (c.add.ensures.value, c.add.ensures.desk_after) in record { value = both.0; desk_after = both.1 }

@@ -3,4 +3,4 @@ use Rattle.desk.proofs.Whole
 use Rattle.desk.proofs.add_net.Goals as goal
 
 pub returns : goal.returns
-returns c = let both = Whole.as_called _ _ c.args.desk.now _ _ (Whole.net-call _) c.add.ensures in record { value = both.0; desk_after = both.1 }
+returns c = let both = Whole.as_called _ _ c.args.desk.now _ _ (Whole.net-call _) (c.add.ensures.value, c.add.ensures.desk_after) in record { value = both.0; desk_after = both.1 }

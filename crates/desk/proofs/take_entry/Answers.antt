@@ -10,7 +10,7 @@ use Rattle.desk.proofs.take_entry.Goals as goal
 
 pub returns-then-word-lt-KINDS : goal.returns-then-word-lt-KINDS
 returns-then-word-lt-KINDS c = let both = Words.of_entry (entry_of _) _ (lists_of _) _ _ _ (Words.as-out _ _ refl c.if-word-lt-KINDS.true _ c.kind_of.ensures)
-    c.take_out.ensures in record { value = both.0; blk_after = both.1 }
+    (c.take_out.ensures.value, c.take_out.ensures.blk_after) in record { value = both.0; blk_after = both.1 }
 
 pub overflow_add-width : goal.overflow_add-width
 overflow_add-width c =
@@ -31,7 +31,7 @@ put_back-requires c =
 
 pub returns-then-word : goal.returns-then-word
 returns-then-word c = let both = Words.of_entry (entry_of _) _ (lists_of _) _ _ _ (Words.as-back _ _ refl c.if-word-lt-KINDS.false c.if-word.true _ c.kind_of-kind.ensures _ _ (2 + c.width.result - 2)
-    c.width.ensures c.wide.ensures refl) c.put_back.ensures in record { value = both.0; blk_after = both.1 }
+    c.width.ensures c.wide.ensures refl) (c.put_back.ensures.value, c.put_back.ensures.blk_after) in record { value = both.0; blk_after = both.1 }
 
 pub returns : goal.returns
 returns c = record { value = Words.no-entry (entry_of _) (lists_of _) (Words.as_none _ _ refl c.if-word.false); blk_after = λ z. absurd (true≢false (sym z)) }

@@ -18,4 +18,4 @@ pub returns : goal.returns
 unfolding block part latest
 returns c =
     let e = Whole.put_all _ _ _ (search rules) c.put.ensures in
-    Whole.latest-taken c.args.desk.now _ _ c.requires.sound c.requires.nonzero c.unlay.ensures e _ _ c.take_entry.ensures
+    Whole.latest-taken c.args.desk.now _ _ c.requires.sound c.requires.nonzero c.unlay.ensures e _ _ (c.take_entry.ensures.value, c.take_entry.ensures.blk_after)

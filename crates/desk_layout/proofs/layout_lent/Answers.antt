@@ -18,4 +18,4 @@ layout_valid-requires c = record { in_bounds = c.requires.in_bounds; desk_value 
 pub returns : goal.returns
 returns c = let both = lent-on c.args.desk.now c.args.prune c.args.separate c.args.nets.now c.args.x.now c.args.y.now c.args.kinds.now
     c.args.joins.now _ c.requires.in_bounds c.validate.ensures c.if-validate-ne0.false _ c.ok_choice.ensures c.if-not-ok_choice.false-raw _ _
-    c.layout_valid.ensures in record { value = both.0; joins_after = both.1 }
+    (c.layout_valid.ensures.value, c.layout_valid.ensures.joins_after) in record { value = both.0; joins_after = both.1 }

@@ -12,4 +12,4 @@ pub search_valid-requires : goal.search_valid-requires
 search_valid-requires c = let both = (c.requires, lent-asks c.args.desk.now c.args.prune c.args.x c.args.y c.args.ex.now c.args.ey.now c.args.lx.now c.args.ly.now c.args.kinds.now c.args.dirs.now _ c.requires c.validate.ensures c.if-validate-ne0.false _ c.ok_query.ensures c.if-not-ok_query.false-raw) in record { in_bounds = both.0; desk_value = both.1.0; ey_value = both.1.1 }
 
 pub returns : goal.returns
-returns c = let both = lent-on c.args.desk.now c.args.prune c.args.x c.args.y c.args.ex.now c.args.ey.now c.args.lx.now c.args.ly.now c.args.kinds.now c.args.dirs.now _ c.requires c.validate.ensures c.if-validate-ne0.false _ c.ok_query.ensures c.if-not-ok_query.false-raw _ _ c.search_valid.ensures in record { value = both.0; dirs_after = both.1 }
+returns c = let both = lent-on c.args.desk.now c.args.prune c.args.x c.args.y c.args.ex.now c.args.ey.now c.args.lx.now c.args.ly.now c.args.kinds.now c.args.dirs.now _ c.requires c.validate.ensures c.if-validate-ne0.false _ c.ok_query.ensures c.if-not-ok_query.false-raw _ _ (c.search_valid.ensures.value, c.search_valid.ensures.dirs_after) in record { value = both.0; dirs_after = both.1 }

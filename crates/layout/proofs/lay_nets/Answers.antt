@@ -13,10 +13,10 @@ pub lay_each-requires : goal.lay_each-requires
 lay_each-requires c = record { searching = record { ready = c.requires.ready.0; words = c.requires.ready.1; room = record { cells_room = omega (arith, c.if-n-le-SMALL.true); tree_room = omega (arith, c.if-n-le-SMALL.true); list_room = omega (arith, c.if-n-le-SMALL.true); ends_room = search rules } }; nn_bound = c.requires.nn_bound; in_bounds = c.requires.in_bounds; rows_len = search rules }
 
 pub returns-then-n-le-SMALL : goal.returns-then-n-le-SMALL
-returns-then-n-le-SMALL c = let both = c.lay_each.ensures in record { j_value = both.0; fit = both.1 }
+returns-then-n-le-SMALL c = record { j_value = c.lay_each.ensures.j_value; fit = c.lay_each.ensures.fit }
 
 pub lay_each-requires-2 : goal.lay_each-requires-2
 lay_each-requires-2 c = record { searching = record { ready = c.requires.ready.0; words = c.requires.ready.1; room = record { cells_room = omega (arith, few-lent _ _ c.requires.ready.0); tree_room = omega (arith, few-lent _ _ c.requires.ready.0); list_room = omega (arith, few-lent _ _ c.requires.ready.0); ends_room = search rules } }; nn_bound = c.requires.nn_bound; in_bounds = c.requires.in_bounds; rows_len = search rules }
 
 pub returns : goal.returns
-returns c = let both = c.lay_each-2.ensures in record { j_value = both.0; fit = both.1 }
+returns c = record { j_value = c.lay_each-2.ensures.j_value; fit = c.lay_each-2.ensures.fit }
