@@ -9,7 +9,7 @@ pub returns-then-not-ok_query : goal.returns-then-not-ok_query
 returns-then-not-ok_query c = let both = lent-2q c.args.desk.now c.args.prune c.args.x c.args.y c.args.ex.now c.args.ey.now c.args.lx.now c.args.ly.now c.args.kinds.now c.args.dirs.now _ c.requires c.validate.ensures c.if-validate-ne0.false _ c.ok_query.ensures c.if-not-ok_query.true-raw _ c.no_line-then-not-ok_query.ensures in record { value = both.0; dirs_after = both.1 }
 
 pub search_valid-requires : goal.search_valid-requires
-search_valid-requires c = let both = (c.requires, lent-asks c.args.desk.now c.args.prune c.args.x c.args.y c.args.ex.now c.args.ey.now c.args.lx.now c.args.ly.now c.args.kinds.now c.args.dirs.now _ c.requires c.validate.ensures c.if-validate-ne0.false _ c.ok_query.ensures c.if-not-ok_query.false-raw) in record { in_bounds = both.0; desk_value = both.1.0; ey_value = both.1.1 }
+search_valid-requires c = let more = lent-asks c.args.desk.now c.args.prune c.args.x c.args.y c.args.ex.now c.args.ey.now c.args.lx.now c.args.ly.now c.args.kinds.now c.args.dirs.now _ c.requires c.validate.ensures c.if-validate-ne0.false _ c.ok_query.ensures c.if-not-ok_query.false-raw in record { in_bounds = c.requires; desk_value = more.0; ey_value = more.1 }
 
 pub returns : goal.returns
 returns c = let both = lent-on c.args.desk.now c.args.prune c.args.x c.args.y c.args.ex.now c.args.ey.now c.args.lx.now c.args.ly.now c.args.kinds.now c.args.dirs.now _ c.requires c.validate.ensures c.if-validate-ne0.false _ c.ok_query.ensures c.if-not-ok_query.false-raw _ _ (c.search_valid.ensures.value, c.search_valid.ensures.dirs_after) in record { value = both.0; dirs_after = both.1 }
