@@ -418,7 +418,7 @@ class Turn:
         if where:
             where = self.body(where, var, place)
         plain = body.strip()
-        if plain in ("search rules",) or re.fullmatch(r"c\.[\w.'-]+\.auto\.[\w.'-]+", plain):
+        if (plain == "search rules" and not unf) or re.fullmatch(r"c\.[\w.'-]+\.auto\.[\w.'-]+", plain):
             return None
         if fields and len(fields) > 1:
             mlet = re.match(r"^(.*\bin\b\s*)(\(.*\))\s*$", body, re.S)
