@@ -1,4 +1,4 @@
-//! Links the static library that `rt staticlib clue_desk` writes.
+//! Links the static library that `bindings/build` makes of the crate `clue_desk_c`.
 
 use std::env;
 use std::path::PathBuf;
@@ -11,7 +11,7 @@ fn main() {
     let archive = folder.join(ARCHIVE);
     assert!(
         archive.is_file(),
-        "{} is not there. `bindings/build` makes it (by `rt staticlib clue_desk` in the repository's root); \
+        "{} is not there. `bindings/build` makes it (by `rt lib` in crates/clue_desk_c); \
          or let CLUE_DESK_LIB name a folder that has {ARCHIVE}",
         archive.display()
     );

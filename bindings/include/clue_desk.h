@@ -1,4 +1,4 @@
-/* Calls on a clue desk and the leader lines of its page. Link libclue_desk.a, which `rt staticlib clue_desk` writes.
+/* Calls on a clue desk and the leader lines of its page. Link target/staticlib/libclue_desk.a, which `bindings/build` makes.
  *
  * Slices. A slice is a pointer and a length in entries. The pointer is aligned for its type and never null, also where the
  * length is 0. A slice that a call may write overlaps no other slice of the same call. Beyond that every call takes any memory

@@ -5,6 +5,8 @@
 ghost use Rattle.std.specs.Prelude.{◌+◌, ◌*◌, ◌<◌, ◌≤◌, ◌≡◌, length};
 ghost use Rattle.desk.specs.Sizes.{DESK};
 
+use std::io;
+
 // No number: the line says another call.
 const NONE: u32 = 99;
 
@@ -324,15 +326,14 @@ fn replay(desk: &mut [u32], other: &mut [u32], refusal: &mut [u32], list: &[u8])
     }
 }
 
-fn main() {
+fn main(rt: HostRuntime) -> io::Result<()> {
     let mut list = vector_list::room();
-    let n = io::read_full(0, &mut list);
+    let n = vector_list::read_list(&mut rt.stdin(), &mut list)?;
     let mut desk = [0u32; desk::DESK];
     let mut other = [0u32; desk::DESK];
     let mut refusal = [0u32; 2];
     let t = replay(&mut desk, &mut other, &mut refusal, &list[..n]);
-    io::print_decimal(1, t.calls);
-    io::write_all(1, b" lines replayed, ");
-    io::print_decimal(1, t.wrong);
-    io::write_all(1, b" differ\n");
+    let calls = t.calls;
+    let wrong = t.wrong;
+    println!(rt; "{calls} lines replayed, {wrong} differ")
 }

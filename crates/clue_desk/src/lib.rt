@@ -11,8 +11,7 @@ ghost use Rattle.clue_desk.specs.Calls.Outputs.{refused};
 ghost use Rattle.clue_desk.specs.Views.{search_call, line_left, layout_call, drawing_left};
 
 // Reads a page text: 0, or 16 with the 1-based line and the inner number, or 1 if the desk or the refusal's words are lent too small.
-#[unsafe(no_mangle)]
-pub extern "C" fn read_text(desk: &mut [u32], text: &[u8], refusal: &mut [u32]) -> u32
+pub fn read_text(desk: &mut [u32], text: &[u8], refusal: &mut [u32]) -> u32
     ensures value { result ≡ number (read text.now refusal.old) desk.old }
     ensures desk_value { desk.new ≡ words (read text.now refusal.old) desk.old }
     ensures refusal_value { refused refusal.new ≡ outputs (read text.now refusal.old) desk.old }
@@ -20,64 +19,56 @@ pub extern "C" fn read_text(desk: &mut [u32], text: &[u8], refusal: &mut [u32]) 
     page_text::read_text(desk, text, refusal)
 }
 
-#[unsafe(no_mangle)]
-pub extern "C" fn add_box(desk: &mut [u32], id: u32, x0: i32, y0: i32, x1: i32, y1: i32) -> u32
+pub fn add_box(desk: &mut [u32], id: u32, x0: i32, y0: i32, x1: i32, y1: i32) -> u32
     ensures value { result ≡ number (edit (add Kind.Box (box_record id x0 y0 x1 y1))) desk.old }
     ensures desk_value { desk.new ≡ words (edit (add Kind.Box (box_record id x0 y0 x1 y1))) desk.old }
 {
     desk::add_box(desk, id, x0, y0, x1, y1)
 }
 
-#[unsafe(no_mangle)]
-pub extern "C" fn add_port(desk: &mut [u32], id: u32, x: i32, y: i32, directions: u32) -> u32
+pub fn add_port(desk: &mut [u32], id: u32, x: i32, y: i32, directions: u32) -> u32
     ensures value { result ≡ number (edit (add Kind.Port (point_record id x y directions))) desk.old }
     ensures desk_value { desk.new ≡ words (edit (add Kind.Port (point_record id x y directions))) desk.old }
 {
     desk::add_port(desk, id, x, y, directions)
 }
 
-#[unsafe(no_mangle)]
-pub extern "C" fn add_net(desk: &mut [u32], id: u32) -> u32
+pub fn add_net(desk: &mut [u32], id: u32) -> u32
     ensures value { result ≡ number (edit (add Kind.Net (net_record id))) desk.old }
     ensures desk_value { desk.new ≡ words (edit (add Kind.Net (net_record id))) desk.old }
 {
     desk::add_net(desk, id)
 }
 
-#[unsafe(no_mangle)]
-pub extern "C" fn add_end(desk: &mut [u32], net: u32, x: i32, y: i32, mark: u32) -> u32
+pub fn add_end(desk: &mut [u32], net: u32, x: i32, y: i32, mark: u32) -> u32
     ensures value { result ≡ number (edit (add Kind.End (point_record net x y mark))) desk.old }
     ensures desk_value { desk.new ≡ words (edit (add Kind.End (point_record net x y mark))) desk.old }
 {
     desk::add_end(desk, net, x, y, mark)
 }
 
-#[unsafe(no_mangle)]
-pub extern "C" fn retire_box(desk: &mut [u32], id: u32) -> u32
+pub fn retire_box(desk: &mut [u32], id: u32) -> u32
     ensures value { result ≡ number (edit (retire Kind.Box id)) desk.old }
     ensures desk_value { desk.new ≡ words (edit (retire Kind.Box id)) desk.old }
 {
     desk::retire_box(desk, id)
 }
 
-#[unsafe(no_mangle)]
-pub extern "C" fn retire_port(desk: &mut [u32], at: u32) -> u32
+pub fn retire_port(desk: &mut [u32], at: u32) -> u32
     ensures value { result ≡ number (edit (retire Kind.Port at)) desk.old }
     ensures desk_value { desk.new ≡ words (edit (retire Kind.Port at)) desk.old }
 {
     desk::retire_port(desk, at)
 }
 
-#[unsafe(no_mangle)]
-pub extern "C" fn retire_net(desk: &mut [u32], id: u32) -> u32
+pub fn retire_net(desk: &mut [u32], id: u32) -> u32
     ensures value { result ≡ number (edit (retire Kind.Net id)) desk.old }
     ensures desk_value { desk.new ≡ words (edit (retire Kind.Net id)) desk.old }
 {
     desk::retire_net(desk, id)
 }
 
-#[unsafe(no_mangle)]
-pub extern "C" fn retire_end(desk: &mut [u32], at: u32) -> u32
+pub fn retire_end(desk: &mut [u32], at: u32) -> u32
     ensures value { result ≡ number (edit (retire Kind.End at)) desk.old }
     ensures desk_value { desk.new ≡ words (edit (retire Kind.End at)) desk.old }
 {
@@ -85,8 +76,7 @@ pub extern "C" fn retire_end(desk: &mut [u32], at: u32) -> u32
 }
 
 // Undoes the latest change.
-#[unsafe(no_mangle)]
-pub extern "C" fn undo(desk: &mut [u32]) -> u32
+pub fn undo(desk: &mut [u32]) -> u32
     ensures value { result ≡ number (edit undo_call) desk.old }
     ensures desk_value { desk.new ≡ words (edit undo_call) desk.old }
 {
@@ -95,8 +85,7 @@ pub extern "C" fn undo(desk: &mut [u32]) -> u32
 
 // A search from the place (x, y) to one of the ends (ex, ey), on the graph pruned (1) or not (0). The line's places, kinds (S, N, E) and directions are left in
 // lx, ly, kinds and dirs, with zeros behind it; its last node alone has the kind E.
-#[unsafe(no_mangle)]
-pub extern "C" fn search(
+pub fn search(
     desk: &[u32],
     prune: u32,
     x: i32,
@@ -117,8 +106,7 @@ pub extern "C" fn search(
 // All nets laid out, on the graph pruned (1) or not (0), the wires separated (1) or not (0). A net's row in nets is its number, its first vertex and how many, its
 // first junction and how many; the vertices' places and letters are in x, y and kinds; a junction's row in joins is its vertex, the end vertex that joins there and
 // its letter. Zeros stand behind them.
-#[unsafe(no_mangle)]
-pub extern "C" fn layout(
+pub fn layout(
     desk: &[u32],
     prune: u32,
     separate: u32,

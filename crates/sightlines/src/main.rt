@@ -6,35 +6,33 @@ ghost use Rattle.std.specs.Prelude.{◌≤◌, ◌<◌, length};
 ghost use Rattle.fixed.specs.Constants.{PADDED_WORDS};
 ghost use Rattle.sightline.specs.Boxes.{Fields};
 
+use std::io;
+
 // The origin of both axes.
 const ORIGIN: u32 = 2147483648;
 
 // Writes the coordinate x in steps, and whether it is clear.
-fn print(x: u32, clear: bool) {
+fn print(rt: &impl Print, x: u32, clear: bool) -> io::Result<()> {
     if x < ORIGIN {
-        return;
+        return Ok(());
     }
-    io::print_decimal(1, (x - ORIGIN) as u64);
+    let steps = x - ORIGIN;
     if clear {
-        io::write_all(1, b"\tclear\n");
-        return;
+        return println!(rt; "{steps}\tclear");
     }
-    io::write_all(1, b"\tblocked\n");
+    println!(rt; "{steps}\tblocked")
 }
 
 // Writes each of the coordinates.
-fn show(boxes: &[i32], coords: &[i32])
+fn show(rt: &impl Print, boxes: &[i32], coords: &[i32]) -> io::Result<()>
     requires { PADDED_WORDS ≤ length boxes.now }
 {
-    let mut i = 0;
-    while i < coords.len() {
+    for i in 0..coords.len() {
         let x = fixed::at(coords, i);
-        print(
-            x,
-            sightline::points_have_horizontal_sightline(boxes, 1, ORIGIN, ORIGIN, x, 1),
-        );
-        i += 1;
+        let clear = sightline::points_have_horizontal_sightline(boxes, 1, ORIGIN, ORIGIN, x, 1);
+        print(rt, x, clear)?;
     }
+    Ok(())
 }
 
 // One padded edge of the first of the rows, in the word a.
@@ -45,7 +43,7 @@ fn pad(boxes: &mut [i32], a: usize, rows: &[u32], field: usize, high: bool)
     sightline::pad_edges(&mut boxes[a..], rows, 5, field, high, 1);
 }
 
-fn main() {
+fn main(rt: HostRuntime) -> io::Result<()> {
     let rows = [1u32, 2147509248, 2147483648, 2147514368, 2147488768];
     let mut boxes = [0i32; fixed::PADDED_WORDS];
     pad(&mut boxes, 0, &rows, 1, false);
@@ -53,5 +51,5 @@ fn main() {
     pad(&mut boxes, fixed::MAX_X, &rows, 3, true);
     pad(&mut boxes, fixed::MAX_Y, &rows, 4, true);
     let coords = [256i32, 23039, 23040, 30000];
-    show(&boxes, &coords);
+    show(&rt, &boxes, &coords)
 }

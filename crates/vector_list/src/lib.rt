@@ -2,6 +2,10 @@
 #![tactic(auto)]
 
 ghost use Rattle.std.specs.Prelude.{◌≡◌, ◌≤◌, length};
+ghost use Rattle.std.specs.Io.{ReadsAtMost};
+
+use std::io;
+use std::io::Read;
 
 // The size of a list at most.
 pub const LIST: usize = 2097152;
@@ -11,6 +15,21 @@ pub fn room() -> [u8; LIST]
     ensures { 2097152 ≡ length result }
 {
     [0; LIST]
+}
+
+// Reads a list until the room is full or the input ends; returns how many bytes. Each turn reads a byte at least, so that there are turns enough.
+pub fn read_list<R: Read>(input: &mut R, room: &mut [u8]) -> io::Result<usize>
+    ensures { ReadsAtMost result room.new }
+{
+    let mut n = 0;
+    for _ in 0..room.len() {
+        let read = input.read(&mut room[n..])?;
+        if read == 0 {
+            break;
+        }
+        n += read;
+    }
+    Ok(n)
 }
 
 // A field: its number's word (`decimals::BASE` above the number), or 0 where it is none, and the place behind it and its separator.

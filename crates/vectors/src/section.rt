@@ -1,5 +1,7 @@
 // The list's sections: a header line, and after it as many bytes as its last field says.
-ghost use Rattle.std.specs.Prelude.{◌<◌, ◌≤◌, length};
+ghost use Rattle.std.specs.Prelude.{◌<◌, ◌≤◌, IfOk, length};
+
+use std::io;
 
 // Where a section's bytes begin and end; the next section follows.
 #[derive(Clone, Copy)]
@@ -96,27 +98,27 @@ pub fn second_flag(list: &[u8], at: usize) -> bool
 }
 
 // Writes the field at `at`, and the place behind it.
-fn write_field(list: &[u8], at: usize) -> usize
+fn write_field(rt: &impl Print, list: &[u8], at: usize) -> io::Result<usize>
     requires { at ≤ length list.now }
-    ensures { result ≤ length list.now }
+    ensures { IfOk result (λ next. next ≤ length list.now) }
 {
     let e = vector_list::field_end(list, at);
-    io::write_all(1, &list[at..e]);
+    rt.write_all(&list[at..e])?;
     let f = vector_list::field(list, at);
-    f.next
+    Ok(f.next)
 }
 
 // Writes the page's word and name, and the header of the section that differs.
-pub fn tell(list: &[u8], page: usize, at: usize)
+pub fn tell(rt: &impl Print, list: &[u8], page: usize, at: usize) -> io::Result<()>
     requires { (page ≤ length list.now) × (at ≤ length list.now) }
 {
-    let name = write_field(list, page);
-    io::write_all(1, b" ");
-    write_field(list, name);
-    io::write_all(1, b" differs: ");
+    let name = write_field(rt, list, page)?;
+    print!(rt; " ")?;
+    write_field(rt, list, name)?;
+    print!(rt; " differs: ")?;
     let e = vector_list::next_line(list, at);
     if e < at {
-        return;
+        return Ok(());
     }
-    io::write_all(1, &list[at..e]);
+    rt.write_all(&list[at..e])
 }

@@ -1,6 +1,8 @@
 // What is counted.
 ghost use Rattle.std.specs.Prelude.{◌<◌};
 
+use std::io;
+
 pub const KINDS: usize = 16;
 
 pub const PAGES: usize = 0;
@@ -46,9 +48,9 @@ pub fn count(tally: &mut [u64; KINDS], kind: usize, n: u64)
 }
 
 // Prints how many there were of a kind, and what they are.
-pub fn print(tally: &[u64; KINDS], kind: usize, what: &[u8])
+pub fn print(rt: &impl Print, tally: &[u64; KINDS], kind: usize, what: &str) -> io::Result<()>
     requires { kind < 16 }
 {
-    io::print_decimal(1, tally[kind]);
-    io::write_all(1, what);
+    let n = tally[kind];
+    print!(rt; "{n}{what}")
 }
