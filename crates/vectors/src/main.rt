@@ -13,8 +13,7 @@ mod tally;
 ghost use Rattle.std.specs.Prelude.{◌<◌, ◌≤◌, length};
 ghost use Rattle.desk.specs.Sizes.{DESK};
 
-use std::io;
-use std::fs;
+use std::{fs, io};
 use tally::Verdict;
 
 // Counts a compared section of a kind; one that differs is told with its page.
