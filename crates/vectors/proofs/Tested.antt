@@ -1,5 +1,5 @@
 -- What a loop over the boxes has tested, one more a turn.
-use Rattle.std.proofs.Common.{◌≡◌, ℕ, ◌+◌, ◌*◌, ◌<◌, ◌≤◌, List, length, get_or, sym, subst, arith}
+use Rattle.std.proofs.Common.{◌≡◌, ℕ, ◌+◌, ◌*◌, ◌<◌, ◌≤◌, List, length, get_or, subst, arith}
 use Rattle.fixed.specs.Constants.{LEAST, GREATEST}
 use Rattle.decimals.proofs.Bools.{below}
 use Rattle.sightline.specs.Boxes.{Fields}

@@ -1,5 +1,4 @@
-use Prim.Native.Nat.{◌≤◌, ◌-◌}
-use lib.ListN.{length}
+use Rattle.std.proofs.Common.{◌≤◌, ◌-◌, length}
 use Rattle.calls.proofs.expected.Given as goal
 
 abbrev pub invariant-loop-fields : goal.invariant-loop-fields

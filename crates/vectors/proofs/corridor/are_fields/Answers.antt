@@ -1,5 +1,5 @@
 -- The fields tested so far.
-use Rattle.std.proofs.Common.{◌≡◌, ℕ, ◌-◌, sym, subst, true≢false, arith}
+use Rattle.std.proofs.Common.{◌≡◌, ℕ, sym, subst, true≢false, arith}
 use Rattle.sightline.specs.Boxes.{Fields}
 use Rattle.vectors.proofs.Tested.{fields-none, fields-more}
 use Rattle.vectors.proofs.corridor.are_fields.Goals as goal

@@ -1,5 +1,5 @@
 -- The coordinates tested so far.
-use Rattle.std.proofs.Common.{◌≡◌, ℕ, ◌-◌, sym, subst, true≢false, arith}
+use Rattle.std.proofs.Common.{◌≡◌, ℕ, sym, subst, true≢false, arith}
 use Rattle.fixed.specs.Columns.{column}
 use Rattle.fixed.proofs.Columns.{column-at}
 use Rattle.corridors.specs.Answer.{Inside}
