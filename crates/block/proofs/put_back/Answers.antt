@@ -16,12 +16,18 @@ pub returns-then-take_number-ne0 : goal.returns-then-take_number-ne0
 returns-then-take_number-ne0 c = record { value = Taken.back-not _ _ c.requires.0 c.requires.1 _ c.records-n.ensures _ _ _ c.take_number.ensures c.if-take_number-ne0.true; blk_after = λ z. absurd (true≢false (sym z)) }
 
 pub insert_record-requires : goal.insert_record-requires
-insert_record-requires c = record { counted = Taken.counted c.args.kind _ c.requires.0 c.requires.1; row_len = (
-        c.requires.2,
-        Blocks.take-room c.args.kind _ _ _ c.take_number.ensures c.if-take_number-ne0.false,
-        omega (arith, c.if-n-i.false, c.records-n.ensures),
-      ) }
+insert_record-requires c = record {
+  counted = Taken.counted c.args.kind _ c.requires.0 c.requires.1;
+  row_len = (
+    c.requires.2,
+    Blocks.take-room c.args.kind _ _ _ c.take_number.ensures c.if-take_number-ne0.false,
+    omega (arith, c.if-n-i.false, c.records-n.ensures),
+  );
+}
 
 pub returns : goal.returns
-returns c = record { value = Taken.back-there _ _ c.requires.0 c.requires.1 c.records-n.result c.records-n.ensures c.args.i _ _
-          c.take_number.ensures c.if-take_number-ne0.false (omega (arith, c.if-n-i.false)); blk_after = λ z. Taken.is-back _ _ c.requires.0 c.requires.1 _ _ _ c.insert_record.ensures }
+returns c = record {
+  value = Taken.back-there _ _ c.requires.0 c.requires.1 c.records-n.result c.records-n.ensures c.args.i _ _
+      c.take_number.ensures c.if-take_number-ne0.false (omega (arith, c.if-n-i.false));
+  blk_after = λ z. Taken.is-back _ _ c.requires.0 c.requires.1 _ _ _ c.insert_record.ensures;
+}

@@ -26,14 +26,13 @@ returns-then-not-ok_block c =
 
 pub ok_entries-requires : goal.ok_entries-requires
 unfolding block part
-ok_entries-requires c =
- (
-      search rules,
-      omega arith,
-      Whole.copy-long c.args.desk.now c.requires _ _ refl c.put.ensures,
-      Whole.copy-ok c.args.desk.now c.requires _ _ refl
-          c.put.ensures (sym c.ok_block.ensures ∙ not-false _ c.if-not-ok_block.false-raw),
-    )
+ok_entries-requires c = (
+  search rules,
+  omega arith,
+  Whole.copy-long c.args.desk.now c.requires _ _ refl c.put.ensures,
+  Whole.copy-ok c.args.desk.now c.requires _ _ refl
+      c.put.ensures (sym c.ok_block.ensures ∙ not-false _ c.if-not-ok_block.false-raw),
+)
 
 pub returns : goal.returns
 unfolding block part

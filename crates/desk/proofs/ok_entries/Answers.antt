@@ -21,18 +21,17 @@ returns-then-not-take_entry c =
     c.take_entry.ensures.value c.if-not-take_entry.true-raw
 
 pub loop-k-preserved : goal.loop-k-preserved
-loop-k-preserved c =
-    (
-      omega arith,
-      Valid.entry-long _ _ c.loop-k.k _ c.loop-k.blk c.loop-k.invariant.3 (omega arith) (c.loop-k.k * ENTRY + ENTRY - c.loop-k.k * ENTRY)
-          (omega arith) _ c.take_entry.ensures.value c.if-not-take_entry.false-raw c.loop-k.invariant.1 c.loop-k.invariant.2 _ c.take_entry.ensures.blk_after,
-      Valid.entry-ok _ _
-          c.loop-k.k _ c.loop-k.blk c.loop-k.invariant.3 (omega arith) (c.loop-k.k * ENTRY + ENTRY - c.loop-k.k * ENTRY) (omega arith) _
-          c.take_entry.ensures.value c.if-not-take_entry.false-raw c.loop-k.invariant.1 c.loop-k.invariant.2 _ c.take_entry.ensures.blk_after,
-      Valid.entry-passes _ _
-          c.loop-k.k _ c.loop-k.blk c.loop-k.invariant.3 (omega arith) (c.loop-k.k * ENTRY + ENTRY - c.loop-k.k * ENTRY) (omega arith) _
-          c.take_entry.ensures.value c.if-not-take_entry.false-raw c.loop-k.invariant.1 c.loop-k.invariant.2 _ c.take_entry.ensures.blk_after,
-    )
+loop-k-preserved c = (
+  omega arith,
+  Valid.entry-long _ _ c.loop-k.k _ c.loop-k.blk c.loop-k.invariant.3 (omega arith) (c.loop-k.k * ENTRY + ENTRY - c.loop-k.k * ENTRY)
+      (omega arith) _ c.take_entry.ensures.value c.if-not-take_entry.false-raw c.loop-k.invariant.1 c.loop-k.invariant.2 _ c.take_entry.ensures.blk_after,
+  Valid.entry-ok _ _
+      c.loop-k.k _ c.loop-k.blk c.loop-k.invariant.3 (omega arith) (c.loop-k.k * ENTRY + ENTRY - c.loop-k.k * ENTRY) (omega arith) _
+      c.take_entry.ensures.value c.if-not-take_entry.false-raw c.loop-k.invariant.1 c.loop-k.invariant.2 _ c.take_entry.ensures.blk_after,
+  Valid.entry-passes _ _
+      c.loop-k.k _ c.loop-k.blk c.loop-k.invariant.3 (omega arith) (c.loop-k.k * ENTRY + ENTRY - c.loop-k.k * ENTRY) (omega arith) _
+      c.take_entry.ensures.value c.if-not-take_entry.false-raw c.loop-k.invariant.1 c.loop-k.invariant.2 _ c.take_entry.ensures.blk_after,
+)
 
 pub returns : goal.returns
 returns c =

@@ -21,13 +21,12 @@ slice_bounds-put_back-end c =
     omega (arith, Words.row_inside c.kind_of-kind.result c.args.entry.now c.width.result c.requires.2 c.width.ensures, c.requires.2)
 
 pub put_back-requires : goal.put_back-requires
-put_back-requires c =
- (
-      c.requires.0,
-      c.requires.1,
-      Words.row-there c.kind_of-kind.result c.args.entry.now c.width.result
-          (2 + c.width.result - 2) c.requires.2 c.width.ensures refl,
-    )
+put_back-requires c = (
+  c.requires.0,
+  c.requires.1,
+  Words.row-there c.kind_of-kind.result c.args.entry.now c.width.result
+      (2 + c.width.result - 2) c.requires.2 c.width.ensures refl,
+)
 
 pub returns-then-word : goal.returns-then-word
 returns-then-word c = let both = Words.of_entry (entry_of _) _ (lists_of _) _ _ _ (Words.as-back _ _ refl c.if-word-lt-KINDS.false c.if-word.true _ c.kind_of-kind.ensures _ _ (2 + c.width.result - 2)

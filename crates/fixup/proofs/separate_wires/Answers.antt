@@ -22,10 +22,16 @@ separate_gathered-requires c = let x : List ℤ = c.args.x.now in
     let y : List ℤ = c.args.y.now in
     let zeros = length-replicate {A = ℕ} 512 0 in
     let h-few = c.gather-h.ensures.1 in
-    let v-few = c.gather-v.ensures.1 in record { joined = c.requires.joined; y_len = (c.requires.y_len.0, c.requires.y_len.1); listed = (
-            is-listed _ _ _ _ _ _ (length-ups y) _ c.gather-h.ensures.0 (length x) c.requires.y_len.0 c.requires.y_len.2 c.requires.within.1,
-            is-listed _ _ _ _ _ _ (length-ups x) _ c.gather-v.ensures.0 (length x) refl c.requires.y_len.2 c.requires.within.0,
-          ); h_bound = (omega arith, omega (arith, c.gather-h.auto.keys), omega (arith, c.gather-h.auto.low), omega (arith, c.gather-h.auto.high)); v_bound = (omega arith, omega (arith, c.gather-v.auto.keys), omega (arith, c.gather-v.auto.low), omega (arith, c.gather-v.auto.high)) }
+    let v-few = c.gather-v.ensures.1 in record {
+      joined = c.requires.joined;
+      y_len = (c.requires.y_len.0, c.requires.y_len.1);
+      listed = (
+        is-listed _ _ _ _ _ _ (length-ups y) _ c.gather-h.ensures.0 (length x) c.requires.y_len.0 c.requires.y_len.2 c.requires.within.1,
+        is-listed _ _ _ _ _ _ (length-ups x) _ c.gather-v.ensures.0 (length x) refl c.requires.y_len.2 c.requires.within.0,
+      );
+      h_bound = (omega arith, omega (arith, c.gather-h.auto.keys), omega (arith, c.gather-h.auto.low), omega (arith, c.gather-h.auto.high));
+      v_bound = (omega arith, omega (arith, c.gather-v.auto.keys), omega (arith, c.gather-v.auto.low), omega (arith, c.gather-v.auto.high));
+    }
 
 pub returns : goal.returns
 returns c =

@@ -33,4 +33,4 @@ with_junction-requires c =
 
 pub returns : goal.returns
 returns c =
- at-branch _ _ _ _ _ _ _ _ 0 c.if-made-ne0.false c.if-i-a.false (from_is _ _ _ _ _ _ _ _ _ _ _ _ _ _ _ c.branch-t.ensures.m_value c.branch-t.ensures.joins_value c.with_junction.ensures.0 c.with_junction.ensures.1 c.with_junction.ensures.2 c.with_junction.ensures.3)
+    at-branch _ _ _ _ _ _ _ _ 0 c.if-made-ne0.false c.if-i-a.false (from_is _ _ _ _ _ _ _ _ _ _ _ _ _ _ _ c.branch-t.ensures.m_value c.branch-t.ensures.joins_value c.with_junction.ensures.0 c.with_junction.ensures.1 c.with_junction.ensures.2 c.with_junction.ensures.3)

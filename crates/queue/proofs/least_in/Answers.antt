@@ -21,8 +21,8 @@ loop-i-preserved c =
     let b = c.loop-i in (
       search rules,
       elim c.if-x-y.branch [
-        then-x-y w ↦ rw w.best-is (join-take _ _ _ _ _ _ b.invariant.1 (leaf _ b.i) _ _ c.get-x.ensures c.get-y.ensures w.if-x-y.true)
-      | else-x-y w ↦ rw w.best-is (join-keep _ _ _ _ _ _ b.invariant.1 (leaf _ b.i) _ _ c.get-x.ensures c.get-y.ensures w.if-x-y.false)
+        | then-x-y w ↦ rw w.best-is (join-take _ _ _ _ _ _ b.invariant.1 (leaf _ b.i) _ _ c.get-x.ensures c.get-y.ensures w.if-x-y.true)
+        | else-x-y w ↦ rw w.best-is (join-keep _ _ _ _ _ _ b.invariant.1 (leaf _ b.i) _ _ c.get-x.ensures c.get-y.ensures w.if-x-y.false)
       ],
     )
 

@@ -18,7 +18,7 @@ overflow_add-e c = omega (arith, c.requires.path_on.most)
 
 pub fits-requires : goal.fits-requires
 fits-requires c =
- let L = path_line c.args.order c.args.nodes.now c.args.path.now in let k = kept-le L.kinds L.ways (length c.args.path.now - 1) in (c.requires.path_nonzero.1, omega (arith, c.line_vertices-v.ensures, c.requires.path_on.most), c.requires.path_nonzero.2, omega (arith, c.requires.path_on.most))
+    let L = path_line c.args.order c.args.nodes.now c.args.path.now in let k = kept-le L.kinds L.ways (length c.args.path.now - 1) in (c.requires.path_nonzero.1, omega (arith, c.line_vertices-v.ensures, c.requires.path_on.most), c.requires.path_nonzero.2, omega (arith, c.requires.path_on.most))
 
 pub returns-then-not-fits : goal.returns-then-not-fits
 returns-then-not-fits c = line-over _ _ _ _ c.if-path-eq1.false _ c.line_vertices-v.ensures _ c.fits.ensures c.if-not-fits.true-raw

@@ -16,11 +16,11 @@ returns-then-step-ne0 c = record { m_value = branch-tried _ _ _ _ _ _ c.joined_e
 
 pub overflow_sub-last : goal.overflow_sub-last
 overflow_sub-last c =
- let k = made _ _ _ _ _ _ _ _ _ _ c.route_wire-step.ensures c.requires.n_bound.0 c.requires.n_bound.2 c.if-step-ne0.false in omega arith
+    let k = made _ _ _ _ _ _ _ _ _ _ c.route_wire-step.ensures c.requires.n_bound.0 c.requires.n_bound.2 c.if-step-ne0.false in omega arith
 
 pub overflow_cast-last : goal.overflow_cast-last
 overflow_cast-last c =
- let k = made _ _ _ _ _ _ _ _ _ _ c.route_wire-step.ensures c.requires.n_bound.0 c.requires.n_bound.2 c.if-step-ne0.false in omega arith
+    let k = made _ _ _ _ _ _ _ _ _ _ c.route_wire-step.ensures c.requires.n_bound.0 c.requires.n_bound.2 c.if-step-ne0.false in omega arith
 
 pub put_junction-requires : goal.put_junction-requires
 put_junction-requires c = c.requires.j_bound
