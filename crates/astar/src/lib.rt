@@ -10,7 +10,7 @@ ghost use Rattle.queue.specs.Columns.{WIDTH, sums};
 ghost use Rattle.queue.specs.Index.{Indexed};
 ghost use Rattle.nodes.specs.Graph.{none, opposite};
 ghost use Rattle.nodes.specs.Columns.{GRAPH_WORDS, whole, graph, graph_in};
-ghost use Rattle.astar.specs.Search.{DIRECTIONS, FAR, HIGH, MOVES, distance as distanceS, nearest, toward, arrives, arrival, run_length, penalty_at as penaltyS, replaced, relax as relaxS, expand as expandS, begin as beginS, search, found_of};
+ghost use Rattle.astar.specs.Search.{DIRECTIONS, FAR, HIGH, MOVES, distance as distance_s, nearest, toward, arrives, arrival, run_length, penalty_at as penalty_s, replaced, relax as relax_s, expand as expand_s, begin as begin_s, search, found_of};
 ghost use Rattle.astar.specs.Reached.{Ready, Below};
 ghost use Rattle.astar.specs.Scratch.{ESTIMATE, scores, estimates, preds, state, marked, Estimated, Held};
 
@@ -49,7 +49,7 @@ fn wide(x: u32) -> usize
 // The distance of the nodes a and b.
 fn distance(nodes: &[i32], n: usize, a: usize, b: usize) -> u64
     requires { (a < n) × (b < n) × (n ≤ NODES) × (GRAPH_WORDS ≤ length nodes.now) }
-    ensures { (result ≡ distanceS (graph_in n nodes.now).xs (graph_in n nodes.now).ys a b) × (result < FAR) }
+    ensures { (result ≡ distance_s (graph_in n nodes.now).xs (graph_in n nodes.now).ys a b) × (result < FAR) }
 {
     fixed::manhattan(
         nodes::x_of(nodes, a),
@@ -176,7 +176,7 @@ fn arrival(nodes: &[i32], n: usize, cells: &[u64], v: usize) -> usize
 fn penalty_at(nodes: &[i32], n: usize, cells: &[u64], v: usize, arrived: usize) -> u64
     requires ready { Ready (graph n nodes.now) × (GRAPH_WORDS ≤ length nodes.now) }
     requires n_in_bounds { (n * WIDTH ≤ length cells.now) × (v < n) × (arrived ≡ arrival (graph n nodes.now) (preds n cells.now) v) }
-    ensures { result ≡ penaltyS (graph_in n nodes.now) (preds n cells.now) v }
+    ensures { result ≡ penalty_s (graph_in n nodes.now) (preds n cells.now) v }
 {
     if arrived < DIRECTIONS {
         let back = opposite(arrived);
@@ -198,7 +198,7 @@ fn move_cost(
     pen: u64,
 ) -> u64
     requires { (u < n) × (v < n) × (n ≤ NODES) × (GRAPH_WORDS ≤ length nodes.now) × (score ≤ HIGH) × (pen ≤ HIGH) }
-    ensures { (result ≡ score + distanceS (graph_in n nodes.now).xs (graph_in n nodes.now).ys u v + cond (eqb dir arrived) 0 pen) × (result ≤ HIGH + HIGH + FAR) }
+    ensures { (result ≡ score + distance_s (graph_in n nodes.now).xs (graph_in n nodes.now).ys u v + cond (eqb dir arrived) 0 pen) × (result ≤ HIGH + HIGH + FAR) }
 {
     let there = score + distance(nodes, n, u, v);
     if dir == arrived {
@@ -255,7 +255,7 @@ fn relax(
     requires ready { Ready (graph n nodes.now) × (GRAPH_WORDS ≤ length nodes.now) }
     requires u_lt_n { (u < n) × (dir < DIRECTIONS) × (arrived ≤ DIRECTIONS) × (pen ≤ HIGH) × (get_or (scores n cells.old) u 0 ≤ HIGH) × Below n ends.now }
     requires held { Held n (take n (whole nodes.now).xs) (take n (whole nodes.now).ys) ends.now cells.old tree.old }
-    ensures cells_value { state n cells.new ≡ relaxS (graph_in n nodes.now) ends.now (state n cells.old) u dir arrived pen }
+    ensures cells_value { state n cells.new ≡ relax_s (graph_in n nodes.now) ends.now (state n cells.old) u dir arrived pen }
     ensures held_2 { Held n (graph_in n nodes.now).xs (graph_in n nodes.now).ys ends.now cells.new tree.new }
 {
     let w = target(nodes, n, u, dir, arrived);
@@ -277,7 +277,7 @@ fn expand(nodes: &[i32], n: usize, ends: &[u32], cells: &mut [u64], tree: &mut [
     requires ready { Ready (graph n nodes.now) × (GRAPH_WORDS ≤ length nodes.now) }
     requires u_lt_n { (u < n) × (get_or (scores n cells.old) u 0 ≤ HIGH) × ((get_or (preds n cells.old) u 0 ≡ none → ⊥) → get_or (preds n cells.old) u 0 < n) × Below n ends.now }
     requires held { Held n (take n (whole nodes.now).xs) (take n (whole nodes.now).ys) ends.now cells.old tree.old }
-    ensures cells_value { state n cells.new ≡ expandS (graph_in n nodes.now) ends.now (state n cells.old) u }
+    ensures cells_value { state n cells.new ≡ expand_s (graph_in n nodes.now) ends.now (state n cells.old) u }
     ensures held_2 { Held n (graph_in n nodes.now).xs (graph_in n nodes.now).ys ends.now cells.new tree.new }
 {
     let arrived = arrival(nodes, n, cells, u);
@@ -292,7 +292,7 @@ fn expand(nodes: &[i32], n: usize, ends: &[u32], cells: &mut [u64], tree: &mut [
 // Before the first turn: in blank cells only the start gets a score and a queue entry, both 0.
 fn begin(cells: &mut [u64], tree: &mut [u64], n: usize, start: usize)
     requires { (start < n) × (n * WIDTH ≤ length cells.old) × (scores n cells.old ≡ replicate n UNSET) × (preds n cells.old ≡ replicate n none) × (sums n cells.old ≡ replicate n UNSET) × Indexed (sums n cells.old) tree.old }
-    ensures cells_value { state n cells.new ≡ beginS n start }
+    ensures cells_value { state n cells.new ≡ begin_s n start }
     ensures indexed { Indexed (sums n cells.new) tree.new × (estimates n cells.new ≡ estimates n cells.old) × (marked n cells.new ≡ marked n cells.old) }
 {
     columns::put(cells, n, SCORE, start, 0);

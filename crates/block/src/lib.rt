@@ -2,12 +2,12 @@
 #![tactic(auto)]
 
 ghost use Rattle.std.specs.Prelude.{◌≡◌, true, ◌&&◌, [], ◌+◌, ◌*◌, ◌≤◌, ◌<◌, length, get_or, take, drop};
-ghost use Rattle.rows.specs.Rows.{is_in, ids, key, keys, count, scan, place, records as records-of};
+ghost use Rattle.rows.specs.Rows.{is_in, ids, key, keys, count, scan, place, records as records_of};
 ghost use Rattle.book.specs.declared.Kind.{Kind};
 ghost use Rattle.book.specs.Sizes.{BOX, PORT};
 ghost use Rattle.block.specs.Sizes.{BLOCK};
-ghost use Rattle.book.specs.Book.{width as width_of_lem, most as most-of, ok_id, ok_place, ok_fields, ok_record, own, belongs, ok_owners, ok_members, ok_lists, ranged as ranged-of, fields_number};
-ghost use Rattle.book.specs.Book.{name_number, add_number, new_number, known_number, room_number, take_number, id_number, place_number, retire_number, leave_number, spot as spot_of_lem};
+ghost use Rattle.book.specs.Book.{width as width_of, most as most_of, ok_id, ok_place, ok_fields, ok_record, own, belongs, ok_owners, ok_members, ok_lists, ranged as ranged_of, fields_number};
+ghost use Rattle.book.specs.Book.{name_number, add_number, new_number, known_number, room_number, take_number, id_number, place_number, retire_number, leave_number, spot as spot_of};
 ghost use Rattle.block.specs.Block.{start, size as type_size, area, list_of, lists_of, listed, Counted, with_row, with_row_at, without_row, block_before};
 ghost use Rattle.book.specs.Entries.{before, out, back, is_held};
 
@@ -34,7 +34,7 @@ pub const BLOCK: usize = ENDS_AT + END_AREA;
 
 // The words of a row.
 pub fn width(kind: Kind) -> usize
-    ensures { result ≡ width_of_lem kind }
+    ensures { result ≡ width_of kind }
 {
     match kind {
         Kind::Box => book::BOX,
@@ -46,7 +46,7 @@ pub fn width(kind: Kind) -> usize
 
 // The most records of a kind.
 pub fn most(kind: Kind) -> usize
-    ensures { result ≡ most-of kind }
+    ensures { result ≡ most_of kind }
 {
     match kind {
         Kind::Box => book::BOXES,
@@ -109,14 +109,14 @@ fn ok_point(row: &[u32]) -> bool
 
 // 2 where a field is out of range.
 fn ranged(ok: bool) -> u32
-    ensures { result ≡ ranged-of ok }
+    ensures { result ≡ ranged_of ok }
 {
     if ok { 0 } else { 2 }
 }
 
 // Whether a record's fields are in range.
 fn ok_fields(kind: Kind, row: &[u32]) -> bool
-    requires { length row.now ≡ width_of_lem kind }
+    requires { length row.now ≡ width_of kind }
     ensures { result ≡ ok_fields kind row.now }
 {
     match kind {
@@ -129,7 +129,7 @@ fn ok_fields(kind: Kind, row: &[u32]) -> bool
 
 // The number of a record's fields.
 fn fields_number(kind: Kind, row: &[u32]) -> u32
-    requires { length row.now ≡ width_of_lem kind }
+    requires { length row.now ≡ width_of kind }
     ensures { result ≡ fields_number kind row.now }
 {
     ranged(ok_fields(kind, row))
@@ -137,7 +137,7 @@ fn fields_number(kind: Kind, row: &[u32]) -> u32
 
 // Whether a desk may hold a record.
 fn ok_record(kind: Kind, row: &[u32]) -> bool
-    requires { length row.now ≡ width_of_lem kind }
+    requires { length row.now ≡ width_of kind }
     ensures { result ≡ ok_record kind row.now }
 {
     fields_number(kind, row) == 0
@@ -210,7 +210,7 @@ fn add_number(blk: &[u32], kind: Kind, id: u32) -> u32
 // The number of an addition: that of its fields, then that of the lists.
 pub fn take_number(blk: &[u32], kind: Kind, row: &[u32]) -> u32
     requires counted { Counted blk.now }
-    requires row_len { length row.now ≡ width_of_lem kind }
+    requires row_len { length row.now ≡ width_of kind }
     ensures { result ≡ take_number kind row.now (lists_of blk.now) }
 {
     let fields = fields_number(kind, row);
@@ -223,7 +223,7 @@ pub fn take_number(blk: &[u32], kind: Kind, row: &[u32]) -> u32
 // Puts a row last in the area of its kind.
 pub fn put_record(blk: &mut [u32], kind: Kind, row: &[u32])
     requires counted { Counted blk.old }
-    requires row_len { (length row.now ≡ width_of_lem kind) × (room_number kind (list_of kind blk.old) ≡ 0) }
+    requires row_len { (length row.now ≡ width_of kind) × (room_number kind (list_of kind blk.old) ≡ 0) }
     ensures { blk.new ≡ with_row kind row.now blk.old }
 {
     let a = area_at(kind);
@@ -232,8 +232,8 @@ pub fn put_record(blk: &mut [u32], kind: Kind, row: &[u32])
 
 // Whether row i keeps its ranges and no later row has its id, where the ids are the rows' own.
 fn own_fits(part: &[u32], kind: Kind, n: usize, i: usize, ids: &[u32]) -> bool
-    requires { (i < n) × (1 + n * width_of_lem kind ≤ length part.now) × (ids.now ≡ keys (width_of_lem kind) n part.now) }
-    ensures { result ≡ own kind (take (width_of_lem kind) (drop (1 + i * width_of_lem kind) part.now)) (drop (i + 1) (records-of (width_of_lem kind) n part.now)) }
+    requires { (i < n) × (1 + n * width_of kind ≤ length part.now) × (ids.now ≡ keys (width_of kind) n part.now) }
+    ensures { result ≡ own kind (take (width_of kind) (drop (1 + i * width_of kind) part.now)) (drop (i + 1) (records_of (width_of kind) n part.now)) }
 {
     let w = width(kind);
     let a = 1 + i * w;
@@ -245,8 +245,8 @@ fn own_fits(part: &[u32], kind: Kind, n: usize, i: usize, ids: &[u32]) -> bool
 
 // Whether all n rows fit so.
 fn each_owns(part: &[u32], kind: Kind, n: usize, ids: &[u32]) -> bool
-    requires { (1 + n * width_of_lem kind ≤ length part.now) × (ids.now ≡ keys (width_of_lem kind) n part.now) }
-    ensures { result ≡ scan (own kind) (records-of (width_of_lem kind) n part.now) }
+    requires { (1 + n * width_of kind ≤ length part.now) × (ids.now ≡ keys (width_of kind) n part.now) }
+    ensures { result ≡ scan (own kind) (records_of (width_of kind) n part.now) }
 {
     let mut i = 0;
     while i < n {
@@ -260,8 +260,8 @@ fn each_owns(part: &[u32], kind: Kind, n: usize, ids: &[u32]) -> bool
 
 // Whether row i keeps its ranges and its first word is among the ids.
 fn member_fits(part: &[u32], kind: Kind, n: usize, i: usize, ids: &[u32]) -> bool
-    requires { (i < n) × (1 + n * width_of_lem kind ≤ length part.now) }
-    ensures { result ≡ listed kind ids.now (take (width_of_lem kind) (drop (1 + i * width_of_lem kind) part.now)) (drop (i + 1) (records-of (width_of_lem kind) n part.now)) }
+    requires { (i < n) × (1 + n * width_of kind ≤ length part.now) }
+    ensures { result ≡ listed kind ids.now (take (width_of kind) (drop (1 + i * width_of kind) part.now)) (drop (i + 1) (records_of (width_of kind) n part.now)) }
 {
     let w = width(kind);
     let a = 1 + i * w;
@@ -273,8 +273,8 @@ fn member_fits(part: &[u32], kind: Kind, n: usize, i: usize, ids: &[u32]) -> boo
 
 // Whether all n rows fit so.
 fn each_listed(part: &[u32], kind: Kind, n: usize, ids: &[u32]) -> bool
-    requires { 1 + n * width_of_lem kind ≤ length part.now }
-    ensures { result ≡ scan (listed kind ids.now) (records-of (width_of_lem kind) n part.now) }
+    requires { 1 + n * width_of kind ≤ length part.now }
+    ensures { result ≡ scan (listed kind ids.now) (records_of (width_of kind) n part.now) }
 {
     let mut i = 0;
     while i < n {
@@ -288,8 +288,8 @@ fn each_listed(part: &[u32], kind: Kind, n: usize, ids: &[u32]) -> bool
 
 // Whether the rows fit and have distinct ids. The ids are gathered first: side by side they are searched faster.
 fn all_own(part: &[u32], kind: Kind, n: usize) -> bool
-    requires { (n ≤ most-of kind) × (1 + n * width_of_lem kind ≤ length part.now) }
-    ensures { result ≡ scan (own kind) (records-of (width_of_lem kind) n part.now) }
+    requires { (n ≤ most_of kind) × (1 + n * width_of kind ≤ length part.now) }
+    ensures { result ≡ scan (own kind) (records_of (width_of kind) n part.now) }
 {
     let mut ids: [u32; MOST] = [0; MOST];
     rows::gather(part, width(kind), n, &mut ids);
@@ -298,8 +298,8 @@ fn all_own(part: &[u32], kind: Kind, n: usize) -> bool
 
 // Whether the rows fit and what they belong to is among the owners, whose ids are gathered first.
 fn all_belong(part: &[u32], kind: Kind, n: usize, owners: &[u32], owner: Kind) -> bool
-    requires { (1 + n * width_of_lem kind ≤ length part.now) × (count owners.now ≤ most-of owner) × (1 + count owners.now * width_of_lem owner ≤ length owners.now) }
-    ensures { result ≡ scan (belongs kind (records-of (width_of_lem owner) (count owners.now) owners.now)) (records-of (width_of_lem kind) n part.now) }
+    requires { (1 + n * width_of kind ≤ length part.now) × (count owners.now ≤ most_of owner) × (1 + count owners.now * width_of owner ≤ length owners.now) }
+    ensures { result ≡ scan (belongs kind (records_of (width_of owner) (count owners.now) owners.now)) (records_of (width_of kind) n part.now) }
 {
     let m = rows::wide(owners[0]);
     let mut ids: [u32; MOST] = [0; MOST];
@@ -322,7 +322,7 @@ fn ok_owners(blk: &[u32], kind: Kind) -> bool
 
 // Whether the ports or ends fit, where the boxes or nets keep their limit.
 fn ok_members(blk: &[u32], owner: Kind, kind: Kind) -> bool
-    requires { (length blk.now ≡ BLOCK) × (count (area owner blk.now) ≤ most-of owner) }
+    requires { (length blk.now ≡ BLOCK) × (count (area owner blk.now) ≤ most_of owner) }
     ensures { result ≡ ok_members kind (list_of owner blk.now) (list_of kind blk.now) }
 {
     let n = records(blk, kind);
@@ -414,7 +414,7 @@ fn place_of(blk: &[u32], kind: Kind, id: u32) -> usize
 // The place of the record that is named so: a box or net by its id, a port or end by its place.
 pub fn spot(blk: &[u32], kind: Kind, name: u32) -> usize
     requires { Counted blk.now }
-    ensures { result ≡ spot_of_lem kind (lists_of blk.now) name }
+    ensures { result ≡ spot_of kind (lists_of blk.now) name }
 {
     match kind {
         Kind::Box => place_of(blk, Kind::Box, name),
@@ -461,7 +461,7 @@ pub fn leave_number(blk: &[u32], kind: Kind, name: u32) -> u32
 // Puts a row in at place i of the area of its kind.
 fn insert_record(blk: &mut [u32], kind: Kind, i: usize, row: &[u32])
     requires counted { Counted blk.old }
-    requires row_len { (length row.now ≡ width_of_lem kind) × (room_number kind (list_of kind blk.old) ≡ 0) × (i ≤ count (area kind blk.old)) }
+    requires row_len { (length row.now ≡ width_of kind) × (room_number kind (list_of kind blk.old) ≡ 0) × (i ≤ count (area kind blk.old)) }
     ensures { blk.new ≡ with_row_at kind i row.now blk.old }
 {
     let a = area_at(kind);
@@ -510,7 +510,7 @@ pub fn take_out(blk: &mut [u32], kind: Kind) -> bool
 
 // Undoes a retirement: puts a record in at place i, if it could be added and the place is there.
 pub fn put_back(blk: &mut [u32], kind: Kind, i: usize, row: &[u32]) -> bool
-    requires { (length blk.old ≡ BLOCK) × (ok_lists (lists_of blk.old) ≡ true) × (length row.now ≡ width_of_lem kind) }
+    requires { (length blk.old ≡ BLOCK) × (ok_lists (lists_of blk.old) ≡ true) × (length row.now ≡ width_of kind) }
     ensures value { result ≡ ok_lists (before (back kind i row.now) (lists_of blk.old)) }
     ensures blk_after { result ≡ true → blk.new ≡ block_before (back kind i row.now) blk.old }
 {

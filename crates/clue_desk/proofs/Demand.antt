@@ -18,7 +18,7 @@ use Rattle.block.specs.Sizes.{PORTS_AT, NETS_AT, ENDS_AT}
 use Rattle.book.specs.Book.{Lists, Book, Seen, seen, valid, change, with_record, no_lists, book_with, no_book, Item, in_order}
 use Rattle.desk.specs.Desk.{Sound, book_of, seen_of, sized, at0}
 use Rattle.block.specs.Block.{start}
-use Rattle.desk.specs.Calls.{Call as Edit, says as editSays, does as editDoes, makes as editMakes, number as editNumber}
+use Rattle.desk.specs.Calls.{Call as Edit, says as edit_says, does as edit_does, makes as edit_makes, number as edit_number}
 use Rattle.desk.specs.Calls.Call.{add, retire, undo}
 use Rattle.book.specs.declared.Kind.{Kind}
 use Rattle.book.proofs.Fields.{answer-n, record-0}
@@ -46,7 +46,7 @@ module _ (ws : List ℕ) (g : Sound ws) (n : ℕ) where
 
   says_all : (c : Call) → number c (take n ws) ≡ says c n (seen_of ws)
   unfolding sized read_number
-  says_all (edit c) = lent_by ws n g.long (λ (b : Bool) (s : Seen). cond b (editSays c s) 1) (λ s t. refl)
+  says_all (edit c) = lent_by ws n g.long (λ (b : Bool) (s : Seen). cond b (edit_says c s) 1) (λ s t. refl)
   says_all (read text out) = ap (λ (b : Bool). cond b (read_text text).number 1) (is-lent out)
   says_all (search q o) = says-whole ws n g.long o q
   says_all (layout q d) = Layout.says-whole ws n g.long d q
@@ -61,26 +61,26 @@ module _ (ws : List ℕ) (g : Sound ws) (n : ℕ) where
   -- what a change leaves
   module _ (c : Edit) where
     abbrev changed : Bool → List ℕ
-    changed b = cond b (editDoes c (take n ws)) (take n ws) ++ drop n ws
+    changed b = cond b (edit_does c (take n ws)) (take n ws) ++ drop n ws
 
-    at-0 : says (edit c) n (seen_of ws) ≡ 0 → (DESK ≤ n) × (editSays c (seen_of ws) ≡ 0)
+    at-0 : says (edit c) n (seen_of ws) ≡ 0 → (DESK ≤ n) × (edit_says c (seen_of ws) ≡ 0)
     at-0 e = go (leb DESK n) refl e
       where
-        go : (b : Bool) → leb DESK n ≡ b → cond b (editSays c (seen_of ws)) 1 ≡ 0 → (DESK ≤ n) × (editSays c (seen_of ws) ≡ 0)
+        go : (b : Bool) → leb DESK n ≡ b → cond b (edit_says c (seen_of ws)) 1 ≡ 0 → (DESK ≤ n) × (edit_says c (seen_of ws) ≡ 0)
         go true t e = (leb-true DESK n t, e)
         go false t e = absurd (omega arith)
 
-    changes : (b : Bool) → eqb (says (edit c) n (seen_of ws)) 0 ≡ b → (Sound (changed b)) × (book_of (changed b) ≡ cond b (editMakes c (book_of ws)) (book_of ws))
+    changes : (b : Bool) → eqb (says (edit c) n (seen_of ws)) 0 ≡ b → (Sound (changed b)) × (book_of (changed b) ≡ cond b (edit_makes c (book_of ws)) (book_of ws))
     changes true t =
         let z = at-0 (eqb-true (says (edit c) n (seen_of ws)) 0 t) in
         let us : List ℕ = take n ws in
         let e : book_of us ≡ book_of ws = book-lent ws n g.long z.0 g.book in
         let v : valid (book_of us) ≡ true = ap valid e ∙ g.book in
-        let said : editSays c (seen_of us) ≡ 0 = ap (λ (b : Book). editSays c (seen b)) e ∙ z.1 in
+        let said : edit_says c (seen_of us) ≡ 0 = ap (λ (b : Book). edit_says c (seen b)) e ∙ z.1 in
         let h = lent-long ws n g.long z.0 in
         let p = stands-for us h v c said in
-        let s = sound-longer (editDoes c us) (drop n ws) (rw p.0 h) (ap valid p.1 ∙ keeps (book_of us) c v said) in
-        (s.0, s.1 ∙ p.1 ∙ ap (editMakes c) e)
+        let s = sound-longer (edit_does c us) (drop n ws) (rw p.0 h) (ap valid p.1 ∙ keeps (book_of us) c v said) in
+        (s.0, s.1 ∙ p.1 ∙ ap (edit_makes c) e)
     changes false t = rw (take-append-drop n ws) (g, refl)
 
   -- what a reading leaves
@@ -159,7 +159,7 @@ added : (i : Item) (b : Book) → valid b ≡ true → says (edit (add i.kind i.
     → (valid (turn (adding i) b) ≡ true) × ((turn (adding i) b).lists ≡ with_record i.kind i.row b.lists)
 unfolding turn adding change
 added i b v z =
-    let t : turn (adding i) b ≡ editMakes (add i.kind i.row) b = rw z in
+    let t : turn (adding i) b ≡ edit_makes (add i.kind i.row) b = rw z in
     (ap valid t ∙ keeps b (add i.kind i.row) v z, ap (λ (a : Book). a.lists) t)
 
 rebuilds : {l m : Lists} {is : List Item} → Builds l is m → (b : Book) → valid b ≡ true → b.lists ≡ l → (turns (map adding is) b).lists ≡ m
@@ -172,7 +172,7 @@ rebuilds (one {i = i} o z rest) b v e =
 
 -- ---- the number and the outputs of a call that is no undo go by the lists of a sound desk alone
 module _ (a b : Seen) (v : a.sound ≡ b.sound) (e : a.lists ≡ b.lists) where
-  same-edit : (c : Edit) → edit_undoes c ≡ false → editSays c a ≡ editSays c b
+  same-edit : (c : Edit) → edit_undoes c ≡ false → edit_says c a ≡ edit_says c b
   same-edit (add k r) u = rw (v, e)
   same-edit (retire k name) u = rw (v, e)
   same-edit undo u = absurd (true≢false u)

@@ -10,7 +10,7 @@ use Rattle.book.specs.Book.{Book, seen, no_book, with_record, without_record}
 use Rattle.book.specs.Renamed.{Renames, renamed_lists, renamed_book}
 use Rattle.book.proofs.Renamed.{key-renamed, fields-number, valid-renamed, add-number, name-number, retire-number, with-renamed, without-renamed, change-renamed, back-renamed}
 use Rattle.desk.specs.Sizes.{DESK}
-use Rattle.desk.specs.Calls.{Call as Edit, says as editSays, makes as editMakes}
+use Rattle.desk.specs.Calls.{Call as Edit, says as edit_says, makes as edit_makes}
 use Rattle.desk.specs.Calls.Call.{add, retire, undo}
 use Rattle.clue_desk.specs.Calls.{told, turn, turns}
 use Rattle.clue_desk.specs.Renamed.{Change, call, changed, renamed_edit, renamed_change, LongIds}
@@ -30,13 +30,13 @@ module _ (f : ℕ → ℕ) (q : Renames f) where
   none-renamed = refl
 
   -- ---- one change
-  says-renamed : (e : Edit) (b : Book) → editSays (renamed_edit f e) (seen (renamed_book f b)) ≡ editSays e (seen b)
+  says-renamed : (e : Edit) (b : Book) → edit_says (renamed_edit f e) (seen (renamed_book f b)) ≡ edit_says e (seen b)
   unfolding renamed_edit
   says-renamed (add k r) b = rw (valid-renamed f q b, fields-number f q k r, key-renamed f q r, lists_of b, add-number f q k b.lists (key r))
   says-renamed (retire k name) b = rw (valid-renamed f q b, name-number f q k name, lists_of b, retire-number f q k b.lists name)
   says-renamed undo b = rw (valid-renamed f q b, pile-of b, length-map b.pile (renamed_lists f))
 
-  makes-renamed : (e : Edit) (b : Book) → editMakes (renamed_edit f e) (renamed_book f b) ≡ renamed_book f (editMakes e b)
+  makes-renamed : (e : Edit) (b : Book) → edit_makes (renamed_edit f e) (renamed_book f b) ≡ renamed_book f (edit_makes e b)
   unfolding renamed_edit renamed_book
   makes-renamed (add k r) b = rw (lists_of b, with-renamed f q k r b.lists) (change-renamed f q b (with_record k r b.lists))
   makes-renamed (retire k name) b = rw (lists_of b, without-renamed f q k name b.lists) (change-renamed f q b (without_record k name b.lists))
@@ -45,9 +45,9 @@ module _ (f : ℕ → ℕ) (q : Renames f) where
   -- ---- lists of changes
   turn-renamed : (c : Change) (b : Book) → turn (call (renamed_change f c)) (renamed_book f b) ≡ renamed_book f (turn (call c) b)
   unfolding turn
-  turn-renamed c b = rw (says-renamed c.change b, makes-renamed c.change b) (go (eqb (cond (leb DESK c.size) (editSays c.change (seen b)) 1) 0))
+  turn-renamed c b = rw (says-renamed c.change b, makes-renamed c.change b) (go (eqb (cond (leb DESK c.size) (edit_says c.change (seen b)) 1) 0))
     where
-      go : (t : Bool) → cond t (renamed_book f (editMakes c.change b)) (renamed_book f b) ≡ renamed_book f (cond t (editMakes c.change b) b)
+      go : (t : Bool) → cond t (renamed_book f (edit_makes c.change b)) (renamed_book f b) ≡ renamed_book f (cond t (edit_makes c.change b) b)
       go true = refl
       go false = refl
 

@@ -5,15 +5,15 @@ use Rattle.desk.specs.Sizes.{DESK}
 use Rattle.book.specs.Book.{Lists, Book, Seen, seen, book_with, no_book, Item, in_order}
 use Rattle.block.specs.Block.{start}
 use Rattle.desk.specs.Desk.{book_of}
-use Rattle.desk.specs.Calls.{Call as Edit, says as editSays, makes as editMakes, number as editNumber, words as editWords}
+use Rattle.desk.specs.Calls.{Call as Edit, says as edit_says, makes as edit_makes, number as edit_number, words as edit_words}
 use Rattle.desk.specs.Calls.Call.{add, retire, undo}
 use Rattle.book.specs.declared.Kind.{Kind}
 use Rattle.page_text.specs.Reading.{read_text}
-use Rattle.page_text.specs.Words.{REFUSAL, told as refusalWords, read_number, read_words, read_refusal}
+use Rattle.page_text.specs.Words.{REFUSAL, told as refusal_words, read_number, read_words, read_refusal}
 use Rattle.desk_search.specs.Query.{Query}
-use Rattle.desk_search.specs.Search.{Outputs as Line, says as searchSays, shows as searchShows, desk_number as search_number, desk_outputs as search_line}
+use Rattle.desk_search.specs.Search.{Outputs as Line, says as search_says, shows as search_shows, desk_number as search_number, desk_outputs as search_line}
 use Rattle.page_layout.specs.Drawing.{Drawing}
-use Rattle.desk_layout.specs.Layout.{Choice, says as layoutSays, shows as layoutShows, desk_number as layout_number, desk_drawing as layoutDrawing}
+use Rattle.desk_layout.specs.Layout.{Choice, says as layout_says, shows as layout_shows, desk_number as layout_number, desk_drawing as layout_drawing}
 
 -- an addition, a retirement or undo; the reading of a text, with the words that are lent for a refusal; a search, with the lists that are lent for its line;
 -- a layout, with the lists that are lent for its drawing
@@ -32,13 +32,13 @@ pub data Outputs : Type 0 where
 
 -- the number handed back, the desk's words left behind, and the outputs left behind
 abbrev pub number : Call → List ℕ → ℕ
-number (edit c) ws = editNumber c ws
+number (edit c) ws = edit_number c ws
 number (read text out) ws = read_number text ws out
 number (search q o) ws = search_number ws o q
 number (layout q d) ws = layout_number ws d q
 
 abbrev pub words : Call → List ℕ → List ℕ
-words (edit c) ws = editWords c ws
+words (edit c) ws = edit_words c ws
 words (read text out) ws = read_words text ws out
 words (search q o) ws = ws
 words (layout q d) ws = ws
@@ -47,7 +47,7 @@ abbrev pub outputs : Call → List ℕ → Outputs
 outputs (edit c) ws = none
 outputs (read text out) ws = refused (read_refusal text ws out)
 outputs (search q o) ws = lined (search_line ws o q)
-outputs (layout q d) ws = drawn (layoutDrawing ws d q)
+outputs (layout q d) ws = drawn (layout_drawing ws d q)
 
 -- a call with the size of the desk's part that is lent to it, on a whole desk
 pub record Lent : Type 0 where
@@ -85,21 +85,21 @@ enough size out = leb DESK size && leb REFUSAL (length out)
 
 -- the book's number for a call that is lent `size` words of the desk
 abbrev pub says : Call → ℕ → Seen → ℕ
-says (edit c) size s = cond (leb DESK size) (editSays c s) 1
+says (edit c) size s = cond (leb DESK size) (edit_says c s) 1
 says (read text out) size s = cond (enough size out) (read_text text).number 1
-says (search q o) size s = searchSays size o q s
-says (layout q d) size s = layoutSays size d q s
+says (search q o) size s = search_says size o q s
+says (layout q d) size s = layout_says size d q s
 
 -- the outputs by the book: no list has a say in a refusal
 abbrev pub tells : Call → ℕ → Seen → Outputs
 tells (edit c) size s = none
-tells (read text out) size s = refused (cond (enough size out) (refusalWords (read_text text).line (read_text text).inner (length out)) out)
-tells (search q o) size s = lined (searchShows size o q s)
-tells (layout q d) size s = drawn (layoutShows size d q s)
+tells (read text out) size s = refused (cond (enough size out) (refusal_words (read_text text).line (read_text text).inner (length out)) out)
+tells (search q o) size s = lined (search_shows size o q s)
+tells (layout q d) size s = drawn (layout_shows size d q s)
 
 -- the book after a call: 'reading a page text, unless it gets 1, first empties lists and pile, then adds its lines without copies; 16 empties the lists again'
 abbrev pub makes : Call → ℕ → Book → Book
-makes (edit c) size b = cond (eqb (says (edit c) size (seen b)) 0) (editMakes c b) b
+makes (edit c) size b = cond (eqb (says (edit c) size (seen b)) 0) (edit_makes c b) b
 makes (read text out) size b = cond (enough size out) (book_with (read_text text).lists) b
 makes (search q o) size b = b
 makes (layout q d) size b = b

@@ -11,9 +11,9 @@ use lib.ListN.{length, get_or, take, replicate, length-replicate}
 use borrow.Author.Tests.{eq-eqb, ne_eqb, lt-ltb, le-ltb}
 use Rattle.nodes.specs.Graph.{Graph}
 use Rattle.path_finding.specs.Places.{known}
-use Rattle.wire.specs.Wires.{Vertices, vertices, Ends, ends as endsOf, Wires, wires}
+use Rattle.wire.specs.Wires.{Vertices, vertices, Ends, ends as ends_of, Wires, wires}
 use Rattle.routing.specs.Branches.{Tried, tried}
-use Rattle.routing.specs.Roots.{slant_of, root_to as pairTo, root_pair}
+use Rattle.routing.specs.Roots.{slant_of, root_to as pair_to, root_pair}
 use Rattle.routing.proofs.Pairs.{square-least, first-in, second-in}
 use Rattle.net.specs.Lent.{Page}
 use Rattle.net.specs.Nets.{Branched, branched, root_wire, branch_at, branches_to, Net, net, refused, kept, END_WORDS, no_ends, route_net, connect_net}
@@ -25,8 +25,8 @@ use Rattle.connect.proofs.Unused.{turns-unused}
 -- ---- one turn
 
 module _ (G : Graph) (px py : List ℕ) (a b : ℕ) where
-  pub turn-root : (num : ℕ) (P : Vertices) (E R : List ℕ) (m j k t : ℕ) (X : Wires) → k ≡ 0 → m ≡ 0 → tried t X ≡ root_wire G px py a b (wires P (endsOf E 0))
-      → branched t X R j ≡ turn_at G px py a b k (branched num (wires P (endsOf E m)) R j)
+  pub turn-root : (num : ℕ) (P : Vertices) (E R : List ℕ) (m j k t : ℕ) (X : Wires) → k ≡ 0 → m ≡ 0 → tried t X ≡ root_wire G px py a b (wires P (ends_of E 0))
+      → branched t X R j ≡ turn_at G px py a b k (branched num (wires P (ends_of E m)) R j)
   unfolding turn_at
   turn-root num P E R m j k t X z w e = rw (z, w) (ap (λ (T : Tried). branched T.number T.wires R j) e)
 
@@ -75,23 +75,23 @@ module _ (G : Graph) (px py : List ℕ) (a b : ℕ) where
 
 -- from no ends, whatever the rows hold
 pub turns-all : (G : Graph) (px py : List ℕ) (p : ℕ) (P : Vertices) (E R : List ℕ) (j : ℕ) (X : Branched) → length E ≡ END_WORDS → p ≡ root_pair px py (length px)
-    → X ≡ turns_to G px py (p / length px) (p % length px) (length px + 1) (branched 0 (wires P (endsOf E 0)) R j) → outcome X ≡ outcome (route_net G px py P R j)
+    → X ≡ turns_to G px py (p / length px) (p % length px) (length px + 1) (branched 0 (wires P (ends_of E 0)) R j) → outcome X ≡ outcome (route_net G px py P R j)
 unfolding route_net no_ends
 turns-all G px py p P E R j X e q x = rw (← q) (ap (λ (S : Branched). outcome S) x ∙ by END_WORDS e)
   where
-    by : (n : ℕ) → length E ≡ n → outcome (turns_to G px py (p / length px) (p % length px) (length px + 1) (branched 0 (wires P (endsOf E 0)) R j))
-        ≡ outcome (branches_to G px py (p / length px) (p % length px) (length px) (after G px py (p / length px) (p % length px) (branched 0 (wires P (endsOf (replicate n 0) 0)) R j)))
+    by : (n : ℕ) → length E ≡ n → outcome (turns_to G px py (p / length px) (p % length px) (length px + 1) (branched 0 (wires P (ends_of E 0)) R j))
+        ≡ outcome (branches_to G px py (p / length px) (p % length px) (length px) (after G px py (p / length px) (p % length px) (branched 0 (wires P (ends_of (replicate n 0) 0)) R j)))
     by n h =
-        turns-unused G px py _ _ (length px + 1) P E (replicate n 0) R j (h ∙ sym (length-replicate n 0)) ∙ rw (add-one) (ap (λ (S : Branched). outcome S) (turns-are G px py (p / length px) (p % length px) (length px) (branched 0 (wires P (endsOf (replicate n 0) 0)) R j)))
+        turns-unused G px py _ _ (length px + 1) P E (replicate n 0) R j (h ∙ sym (length-replicate n 0)) ∙ rw (add-one) (ap (λ (S : Branched). outcome S) (turns-are G px py (p / length px) (p % length px) (length px) (branched 0 (wires P (ends_of (replicate n 0) 0)) R j)))
 
 -- ---- the root pair
 
-pair-to : (xs ys : List ℕ) (n k : ℕ) → 2 ≤ n → k ≤ n * n → pairTo xs ys n k < n * n
-unfolding pairTo
+pair-to : (xs ys : List ℕ) (n k : ℕ) → 2 ≤ n → k ≤ n * n → pair_to xs ys n k < n * n
+unfolding pair_to
 pair-to xs ys n zero h l = omega (arith, square-least n h)
-pair-to xs ys n (suc k) h l = by (ltb (slant_of xs ys n (pairTo xs ys n k)) (slant_of xs ys n k)) (pair-to xs ys n k h (omega arith))
+pair-to xs ys n (suc k) h l = by (ltb (slant_of xs ys n (pair_to xs ys n k)) (slant_of xs ys n k)) (pair-to xs ys n k h (omega arith))
   where
-    by : (t : Bool) → pairTo xs ys n k < n * n → cond t k (pairTo xs ys n k) < n * n
+    by : (t : Bool) → pair_to xs ys n k < n * n → cond t k (pair_to xs ys n k) < n * n
     by true r = l
     by false r = r
 

@@ -14,7 +14,7 @@ use Rattle.path_finding.specs.Line.{table}
 use Rattle.vertex.specs.declared.Junction.{Junction}
 use Rattle.wire.specs.Ends.{put_end, stands, first_from, junction_end, end_distance, nearest_end}
 use Rattle.wire.specs.Lines.{Line, straight}
-use Rattle.wire.specs.Wires.{Vertices, Ends, ends as endsOf, Wires, wires, push_end, push_start, push_start_ends, push_corner, push_node, push_nodes, push_vertices, push_fallback_wire, push_fallback, line_vertices, line_ends, fallback_vertices}
+use Rattle.wire.specs.Wires.{Vertices, Ends, ends as ends_of, Wires, wires, push_end, push_start, push_start_ends, push_corner, push_node, push_nodes, push_vertices, push_fallback_wire, push_fallback, line_vertices, line_ends, fallback_vertices}
 use Rattle.routing.specs.Branches.{Tried, tried, fits, line_wire, fallback_wire, route_wire, joined_end, route_branch, join_branch}
 use Rattle.routing.proofs.Joins.{nearest-le, joined_in}
 use Rattle.net.specs.Nets.{Branched, branched, along, root_wire, end_word, branch_line, branch_from, branch_at}
@@ -55,7 +55,7 @@ agree_same n l m K = closed_same 0 n m l K.first K.long
 -- ---- zeros behind the ends
 
 abbrev bare : Ends → Ends
-bare E = endsOf (closed 0 (4 * E.m) E.rows) E.m
+bare E = ends_of (closed 0 (4 * E.m) E.rows) E.m
 
 abbrev clear : Wires → Wires
 clear W = wires W.page (bare W.net)
@@ -67,7 +67,7 @@ abbrev whole : Branched → Branched
 whole S = branched S.number (clear S.wires) S.joins S.j
 
 again : (E : Ends) → bare E ≡ bare (bare E)
-again E = ap (λ (l : List ℕ). endsOf l E.m) (agree_same (4 * E.m) E.rows _ (agree-closed (4 * E.m) E.rows))
+again E = ap (λ (l : List ℕ). ends_of l E.m) (agree_same (4 * E.m) E.rows _ (agree-closed (4 * E.m) E.rows))
 
 again-all : (S : Branched) → whole S ≡ whole (whole S)
 again-all S = ap (λ (E : Ends). branched S.number (wires S.wires.page E) S.joins S.j) (again S.wires.net)
@@ -85,7 +85,7 @@ either c false X Y X' Y' x y = y
 push : (px py v k : ℕ) (E : Ends) → bare (push_end px py v k E) ≡ bare (push_end px py v k (bare E))
 unfolding push_end put_end
 push px py v k E =
-    ap (λ (l : List ℕ). endsOf l (E.m + 1)) (agree_same _ _ _ (grow _ _ _ _ _ (omega arith) (grow _ _ _ _ _ (omega arith) (grow _ _ _ _ _ (omega arith) (grow _ _ _ _ _ (omega arith) (agree-closed (4 * E.m) E.rows))))))
+    ap (λ (l : List ℕ). ends_of l (E.m + 1)) (agree_same _ _ _ (grow _ _ _ _ _ (omega arith) (grow _ _ _ _ _ (omega arith) (grow _ _ _ _ _ (omega arith) (grow _ _ _ _ _ (omega arith) (agree-closed (4 * E.m) E.rows))))))
 
 start-ends : (L : Line) (v : ℕ) (E : Ends) → bare (push_start_ends L v E) ≡ bare (push_start_ends L v (bare E))
 unfolding push_start_ends
@@ -217,6 +217,6 @@ module _ (G : Graph) where
 
 -- what the rows hold before the first turn does not matter
 pub turns-unused : (G : Graph) (px py : List ℕ) (a b k : ℕ) (P : Vertices) (E E' R : List ℕ) (j : ℕ) → length E ≡ length E'
-    → outcome (turns_to G px py a b k (branched 0 (wires P (endsOf E 0)) R j)) ≡ outcome (turns_to G px py a b k (branched 0 (wires P (endsOf E' 0)) R j))
+    → outcome (turns_to G px py a b k (branched 0 (wires P (ends_of E 0)) R j)) ≡ outcome (turns_to G px py a b k (branched 0 (wires P (ends_of E' 0)) R j))
 turns-unused G px py a b k P E E' R j h =
-    ap (λ (S : Branched). outcome S) (turns G px py a b k (branched 0 (wires P (endsOf E 0)) R j) ∙ ap (λ (l : List ℕ). whole (turns_to G px py a b k (branched 0 (wires P (endsOf l 0)) R j))) (agree_same 0 E E' (record { first = refl; long = h })) ∙ sym (turns G px py a b k (branched 0 (wires P (endsOf E' 0)) R j)))
+    ap (λ (S : Branched). outcome S) (turns G px py a b k (branched 0 (wires P (ends_of E 0)) R j) ∙ ap (λ (l : List ℕ). whole (turns_to G px py a b k (branched 0 (wires P (ends_of l 0)) R j))) (agree_same 0 E E' (record { first = refl; long = h })) ∙ sym (turns G px py a b k (branched 0 (wires P (ends_of E' 0)) R j)))

@@ -161,3 +161,8 @@ number-told f a v e g = word-told (plain f) (value f) v (sym g ∙ e)
 pub number-not : (f : List ℕ) (a : Number) → a ≡ number_of f → a ≡ NoNumber → plain f ≡ false
 unfolding number_of
 number-not f a e g = word-not (plain f) (value f) (sym g ∙ e)
+
+-- what an amount and a number are, case by case
+pub ruleset amounts = (amount-none, amount-zero, amount-lead, amount-sum)
+
+pub ruleset numbers = (number-none, minus-bad, minus-zero, minus-word, plus-bad, plus-word, amount-le)

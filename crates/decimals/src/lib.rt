@@ -97,6 +97,7 @@ fn sum_digits(f: &[u8]) -> Amount
 }
 
 // Digits with no leading zero.
+#[tactic(auto, using(crate::proofs::Numbers::amounts))]
 fn read_amount(f: &[u8]) -> Amount
     ensures { result ≡ amount_of f.now }
 {
@@ -113,6 +114,7 @@ fn read_amount(f: &[u8]) -> Amount
 }
 
 // A plain decimal.
+#[tactic(auto, using(crate::proofs::Numbers::numbers))]
 pub fn read_number(f: &[u8]) -> Number
     ensures { result ≡ number_of f.now }
 {

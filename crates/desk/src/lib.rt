@@ -7,7 +7,7 @@ ghost use Rattle.book.specs.declared.Kind.{Kind};
 ghost use Rattle.book.specs.Sizes.{COPIES};
 ghost use Rattle.block.specs.Sizes.{BLOCK};
 ghost use Rattle.desk.specs.Sizes.{NEXT, ENTRY, PILE, DESK};
-ghost use Rattle.book.specs.Book.{width as width_of_lem, ok_lists, ok_copy, valid, take_number, answer};
+ghost use Rattle.book.specs.Book.{width as width_of, ok_lists, ok_copy, valid, take_number, answer};
 ghost use Rattle.block.specs.Block.{area, list_of, lists_of, Counted, block_before};
 ghost use Rattle.desk.specs.Desk.{block, Ready, Sound, taken, emptied, at0, laid, unlaid, book_of, seen_of, sized};
 ghost use Rattle.desk.specs.Desk.{tag as tag_of, kind_of, entry_of, out_words, back_words};
@@ -31,7 +31,7 @@ pub const DESK: usize = NEXT + PILE;
 // Adds a record without an undo entry, as reading a text does.
 pub fn take_record(desk: &mut [u32], kind: Kind, row: &[u32]) -> u32
     requires ready { Ready desk.old }
-    requires row_len { length row.now ≡ width_of_lem kind }
+    requires row_len { length row.now ≡ width_of kind }
     ensures value { result ≡ take_number kind row.now (lists_of (block desk.old)) }
     ensures desk_after { desk.new ≡ at0 result (taken kind row.now desk.old) desk.old }
 {
@@ -215,7 +215,7 @@ fn take_latest(desk: &mut [u32])
 
 // An addition.
 fn add(desk: &mut [u32], kind: Kind, row: &[u32]) -> u32
-    requires { length row.now ≡ width_of_lem kind }
+    requires { length row.now ≡ width_of kind }
     ensures value { result ≡ number (Call.add kind row.now) desk.old }
     ensures desk_after { desk.new ≡ words (Call.add kind row.now) desk.old }
 {

@@ -13,7 +13,7 @@ use Rattle.fixed.proofs.Lists.{length-ups}
 use Rattle.anchors.specs.Records.{Records, records}
 use Rattle.page_graph.specs.Lent.{Asked}
 use Rattle.page_graph.specs.Claims.{Placed}
-use Rattle.layout.specs.Answer.{layout_number as pageNumber}
+use Rattle.layout.specs.Answer.{layout_number as page_number}
 use Rattle.page_layout.specs.Drawing.{Drawing, drawing, laid}
 use Rattle.desk.specs.Sizes.{DESK}
 use Rattle.book.specs.Book.{Lists, Seen, ok_lists, valid, ranged, answer}
@@ -53,11 +53,11 @@ module _ (s : Seen) (q : Choice) (d : Drawing) where
 
 -- ---- the page of a valid desk, and what a layout of it leaves
 module _ (l : Lists) (r : Records) (page : r ≡ page_of l) where
-  page-number : (n : ℕ) → n ≡ pageNumber r → n ≡ layout_number l
+  page-number : (n : ℕ) → n ≡ page_number r → n ≡ layout_number l
   unfolding layout_number
-  page-number n e = e ∙ ap pageNumber page
+  page-number n e = e ∙ ap page_number page
 
-  page-left : (q : Choice) (d p : Drawing) (n : ℕ) → n ≡ pageNumber r → p ≡ laid r (eqb q.prune 1) (eqb q.separate 1) d → p ≡ left n l q d
+  page-left : (q : Choice) (d p : Drawing) (n : ℕ) → n ≡ page_number r → p ≡ laid r (eqb q.prune 1) (eqb q.separate 1) d → p ≡ left n l q d
   page-left q d p n en ep = ep ∙ rw page (laid-left l q d n (page-number n en))
 
 -- ---- at each return, over what is lent
@@ -117,7 +117,7 @@ module _ (ws : List ℕ) (prune separate : ℕ) (nets : List ℕ) (x y : List �
         let ok = lists-ok (book_of ws) v in
         (rw the_page (asked (book_of ws).lists ok), (rw the_page (placed (book_of ws).lists ok), (room, (rw in_is (few_nets (book_of ws).lists ok), rw ie (few-ends (book_of ws).lists ok)))))
 
-    pub valid-on : (r : ℕ) (p : Drawing) → (r ≡ pageNumber (records bs nb ps np ns nn es ne)) × (p ≡ laid (records bs nb ps np ns nn es ne) (eqb prune 1) (eqb separate 1) D)
+    pub valid-on : (r : ℕ) (p : Drawing) → (r ≡ page_number (records bs nb ps np ns nn es ne)) × (p ≡ laid (records bs nb ps np ns nn es ne) (eqb prune 1) (eqb separate 1) D)
         → (r ≡ layout_number (book_of ws).lists) × (p ≡ left r (book_of ws).lists Q D)
     valid-on r p (e₁, e₂) =
         (page-number (book_of ws).lists _ the_page r e₁, page-left (book_of ws).lists _ the_page Q D p r e₁ e₂)

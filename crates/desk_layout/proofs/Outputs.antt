@@ -14,7 +14,7 @@ use Rattle.anchors.specs.Records.{Records}
 use Rattle.wire.specs.Wires.{vertices}
 use Rattle.page_graph.specs.Page.{crowded}
 use Rattle.layout.specs.Layout.{page, blank}
-use Rattle.layout.specs.Answer.{layout_page, layout_number as pageNumber}
+use Rattle.layout.specs.Answer.{layout_page, layout_number as page_number}
 use Rattle.page_layout.specs.Drawing.{Drawing, drawing, lists_of, bare, laid}
 use Rattle.book.specs.Book.{Lists}
 use Rattle.select.specs.Page.{page_of}
@@ -32,7 +32,7 @@ crowded-zeros r pruned apart d e = rw e
 
 module _ (l : Lists) (q : Choice) (d : Drawing) where
   pub laid-left : (r : ℕ) → r ≡ layout_number l → laid (page_of l) (is_pruned q) (is_apart q) d ≡ left r l q d
-  unfolding left layout_number pageNumber
+  unfolding left layout_number page_number
   laid-left r er = rw er (go (crowded (page_of l)) refl)
     where
       go : (c : Bool) → crowded (page_of l) ≡ c

@@ -3,7 +3,7 @@ use Rattle.std.specs.Prelude.{List, Bool, cond, ◌&&◌, ℕ, ◌*◌, eqb, leb
 use Rattle.fixed.specs.Up.{BIAS}
 use Rattle.vertex.specs.Pages.{VERTICES}
 use Rattle.layout.specs.Layout.{NET_ROW}
-use Rattle.layout.specs.Answer.{layout_number as pageNumber}
+use Rattle.layout.specs.Answer.{layout_number as page_number}
 use Rattle.page_layout.specs.Drawing.{Drawing, laid}
 use Rattle.desk.specs.Sizes.{DESK}
 use Rattle.book.specs.Sizes.{NETS}
@@ -32,7 +32,7 @@ ok_choice q = leb q.prune 1 && leb q.separate 1
 
 -- 8 or 0: the number of a net stands in its row
 unfoldable pub layout_number : Lists → ℕ
-layout_number l = pageNumber (page_of l)
+layout_number l = page_number (page_of l)
 
 -- 'outputs zero'
 unfoldable pub zeros : Drawing → Drawing

@@ -19,7 +19,7 @@ use Rattle.search.specs.Searched.{Ended}
 use Rattle.page_graph.specs.declared.Graphed.{Graphed}
 use Rattle.page_graph.specs.Page.{crowded, graph_of_page}
 use Rattle.page_graph.specs.Lent.{Asked, Answered}
-use Rattle.page_search.specs.Page.{PageSearched, search_number as pageNumber, search_line as pageLine}
+use Rattle.page_search.specs.Page.{PageSearched, search_number as page_number, search_line as page_line}
 use Rattle.page_search.specs.Lent.{Tried, Searchable}
 use Rattle.page_search.specs.Exists.{Sound, PageTold}
 use Rattle.page_search.proofs.Building.{searchable, page-searched}
@@ -79,7 +79,7 @@ no-nodes l ok q h =
     let t = page_searches (page_of l) (sound l ok) (is_pruned q) q.x q.y q.end_x q.end_y in
     go (crowded (page_of l)) refl t
   where
-    go : (c : Bool) → crowded (page_of l) ≡ c → PageTold (page_of l) (is_pruned q) q.x q.y q.end_x q.end_y → pageLine (page_of l) (is_pruned q) q.x q.y q.end_x q.end_y ≡ []
+    go : (c : Bool) → crowded (page_of l) ≡ c → PageTold (page_of l) (is_pruned q) q.x q.y q.end_x q.end_y → page_line (page_of l) (is_pruned q) q.x q.y q.end_x q.end_y ≡ []
     go true e t = (t.full e).1
     go false e t = t.line_is e ∙ (t.told e).refused (λ z. h (t.number_is e ∙ z))
 

@@ -8,7 +8,7 @@ use lib.ListN.{length, get_or}
 use Rattle.astar.specs.Reached.{LIMIT}
 use Rattle.path_finding.specs.Places.{number}
 use Rattle.page_graph.specs.Page.{crowded, graph_of_page}
-use Rattle.page_search.specs.Page.{search_number as pageNumber}
+use Rattle.page_search.specs.Page.{search_number as page_number}
 use Rattle.page_search.specs.Exists.{Sound, Owned, Holds as PageHolds, port as page-port, unported}
 use Rattle.page_search.proofs.Theorem.{page-line-exists}
 use Rattle.book.specs.Book.{Lists, Book, ok_lists, seen, valid, ranged, answer}
@@ -61,7 +61,7 @@ module _ (l : Lists) (ok : ok_lists l ≡ true) where
 
 -- ---- at the level of the call
 crowded-8 : (l : Lists) (q : Query) → crowded (page_of l) ≡ true → search_number l q ≡ 8
-unfolding search_number pageNumber
+unfolding search_number page_number
 crowded-8 l q e = rw e
 
 module _ (b : Book) (q : Query) (h : AllHold b.lists q) where

@@ -5,7 +5,7 @@ use Rattle.fixed.specs.Up.{BIAS, ups}
 use Rattle.nodes.specs.Graph.{Graph, NODES}
 use Rattle.path_finding.specs.Line.{table, place_at, kind_at, direction_at}
 use Rattle.page_graph.specs.Page.{graph_of_page}
-use Rattle.page_search.specs.Page.{search_number as pageNumber, search_line as pageLine}
+use Rattle.page_search.specs.Page.{search_number as page_number, search_line as page_line}
 use Rattle.desk.specs.Sizes.{DESK}
 use Rattle.book.specs.Book.{Lists, Seen, ranged, answer}
 use Rattle.desk.specs.Desk.{seen_of}
@@ -29,11 +29,11 @@ graph_of l q = graph_of_page (page_of l) (is_pruned q)
 
 -- 8, or 9, 10, 11 or 0 on the graph
 unfoldable pub search_number : Lists → Query → ℕ
-search_number l q = pageNumber (page_of l) (is_pruned q) q.x q.y q.end_x q.end_y
+search_number l q = page_number (page_of l) (is_pruned q) q.x q.y q.end_x q.end_y
 
 -- 'a line is its nodes from start to end'
 unfoldable pub search_line : Lists → Query → List ℕ
-search_line l q = pageLine (page_of l) (is_pruned q) q.x q.y q.end_x q.end_y
+search_line l q = page_line (page_of l) (is_pruned q) q.x q.y q.end_x q.end_y
 
 -- 'place, kind, direction onward', in lists of the lent lengths, zeros behind the line
 unfoldable pub written : Graph → List ℕ → Outputs → Outputs

@@ -6,7 +6,7 @@ ghost use Rattle.fixed.specs.Up.{ups};
 ghost use Rattle.fixed.specs.Track.{TRACKS, track, moved};
 ghost use Rattle.vertex.specs.Pages.{VERTICES, rows, Joined, Within};
 ghost use Rattle.tracks.specs.Corridors.{pairs};
-ghost use Rattle.fixup.specs.Moves.{places, copy_to, start_at, line_move, corner_move, row_step, move as moveTo, move_junctions, put_pair, move_pair, move_at, moves_to, Room, Movable, LOWEST, HIGHEST};
+ghost use Rattle.fixup.specs.Moves.{places, copy_to, start_at, line_move, corner_move, row_step, move as move_to, move_junctions, put_pair, move_pair, move_at, moves_to, Room, Movable, LOWEST, HIGHEST};
 ghost use Rattle.fixup.specs.Separation.{separate_axis, separate_wires, Listed};
 
 const VERTICES: usize = 512;
@@ -112,7 +112,7 @@ fn follow(
 fn move_side(x: &mut [i32], y: &mut [i32], kinds: &[u8], junctions: &[u32], i: usize, v: usize)
     requires joined { Joined (length x.old) junctions.now }
     requires room { Room (length x.old) y.old kinds.now i v }
-    ensures { (k : ℕ) → length x.old ≤ i + k → places (ups x.new) (ups y.new) ≡ moveTo k kinds.now junctions.now (rows junctions.now) i v (places (ups x.old) (ups y.old)) }
+    ensures { (k : ℕ) → length x.old ≤ i + k → places (ups x.new) (ups y.new) ≡ move_to k kinds.now junctions.now (rows junctions.now) i v (places (ups x.old) (ups y.old)) }
 {
     let mut j = 0;
     while j < junctions.len() / 3 {

@@ -11,7 +11,7 @@ use borrow.Author.Tests.{eq-eqb, ne_eqb, eqb-true, eqb-false}
 use Rattle.nodes.specs.Graph.{Graph}
 use Rattle.vertex.specs.declared.Junction.{Junction}
 use Rattle.wire.specs.Lines.{Line}
-use Rattle.wire.specs.Wires.{Vertices, vertices, Ends, ends as endsOf, Wires, wires, push_vertices, push_fallback, line_vertices, line_ends, fallback_vertices}
+use Rattle.wire.specs.Wires.{Vertices, vertices, Ends, ends as ends_of, Wires, wires, push_vertices, push_fallback, line_vertices, line_ends, fallback_vertices}
 use Rattle.routing.specs.Branches.{Tried, tried, Limited, fits, line_wire, fallback_wire, route_wire, route_branch, join_branch}
 use Rattle.routing.proofs.Limits.{line-m, fallback-m, limited}
 use Rattle.net.specs.Lent.{Bounds}
@@ -110,7 +110,7 @@ joint-none t j e = rw (ne_eqb _ _ e)
 
 pub from_is : (G : Graph) (x y k : ℕ) (W : Wires) (R R' : List ℕ) (j t : ℕ) (P : Vertices) (E : Ends) (num n m j' : ℕ) → tried t (wires P E) ≡ route_branch (branch_line G x y W.net) x y (along G x y) W
     → R' ≡ join_branch (branch_line G x y W.net) x y (along G x y) W R j → num ≡ t → n ≡ P.n → m ≡ E.m → j' ≡ cond (eqb t 0) (j + 1) j
-    → branched num (wires (vertices P.x P.y P.kinds n) (endsOf E.rows m)) R' j' ≡ branch_from G x y (branched k W R j)
+    → branched num (wires (vertices P.x P.y P.kinds n) (ends_of E.rows m)) R' j' ≡ branch_from G x y (branched k W R j)
 unfolding branch_from
 from_is G x y k W R R' j t P E num n m j' e r a b c d =
     rw (a, b, c, d, r) (ap (λ (T : Tried). branched T.number T.wires (join_branch (branch_line G x y W.net) x y (along G x y) W R j) (cond (eqb T.number 0) (j + 1) j)) e)

@@ -7,10 +7,10 @@ ghost use Rattle.nodes.specs.Graph.{NODES};
 ghost use Rattle.nodes.specs.Columns.{GRAPH_WORDS, graph_in, whole_in};
 ghost use Rattle.path_finding.specs.Line.{table};
 ghost use Rattle.path_finding.specs.Places.{line_between, known_to};
-ghost use Rattle.wire.specs.Wires.{ends as endsOf, vertices_in, vertices_out, wires_in, wires_out};
+ghost use Rattle.wire.specs.Wires.{ends as ends_of, vertices_in, vertices_out, wires_in, wires_out};
 ghost use Rattle.routing.specs.Branches.{tried, route_branch, join_branch};
-ghost use Rattle.net.specs.Points.{ROW, owns as ownsRow, column};
-ghost use Rattle.net.specs.Nets.{along_at, along as alongFrom, end_word, branch_path, branch_line, branch_at, net, refused, root_wire, branched_in, branched_out};
+ghost use Rattle.net.specs.Points.{ROW, owns as owns_row, column};
+ghost use Rattle.net.specs.Nets.{along_at, along as along_from, end_word, branch_path, branch_line, branch_at, net, refused, root_wire, branched_in, branched_out};
 ghost use Rattle.net.specs.Lent.{Searching, Page, Bounds};
 
 use routing::Step;
@@ -41,7 +41,7 @@ fn is_along(nodes: &[i32], s: usize) -> bool
 // Whether the node at (x, y) has an X direction.
 fn along(nodes: &[i32], n: usize, x: u32, y: u32) -> bool
     requires { (n ≤ NODES) × (GRAPH_WORDS ≤ length nodes.now) }
-    ensures { result ≡ alongFrom (graph_in n nodes.now) x y }
+    ensures { result ≡ along_from (graph_in n nodes.now) x y }
 {
     let s = nodes::find_node(nodes, n, x, y);
     if s < n {
@@ -68,7 +68,7 @@ pub fn are_nodes(nodes: &[i32], n: usize, px: &[u32], py: &[u32]) -> bool
 // Whether the row k is an end of the net.
 fn owns(ends: &[u32], id: u32, k: usize) -> bool
     requires { (k < 256) × (k * ROW + ROW ≤ length ends.now) }
-    ensures { result ≡ ownsRow ends.now id k }
+    ensures { result ≡ owns_row ends.now id k }
 {
     ends[k * ROW] == id
 }
@@ -173,7 +173,7 @@ fn branch_line_in(
     requires searching { Searching n nodes.now cells.old tree.old list.old }
     requires m_bound { (m ≤ 4096) × (16384 ≤ length rows.now) }
     requires m_in_bounds { (m ≤ length ex.old) × (m ≤ length ey.old) }
-    ensures { (result ≤ length list.new) × (drop result list.new ≡ branch_path (graph_in n nodes.now) sx sy (endsOf rows.now m)) }
+    ensures { (result ≤ length list.new) × (drop result list.new ≡ branch_path (graph_in n nodes.now) sx sy (ends_of rows.now m)) }
 {
     write_ends(rows, 0, m, ex);
     write_ends(rows, 1, m, ey);
@@ -195,7 +195,7 @@ fn branch_line(
 ) -> usize
     requires searching { Searching n nodes.now cells.old tree.old list.old }
     requires m_bound { (m ≤ 4096) × (16384 ≤ length rows.now) }
-    ensures { (result ≤ length list.new) × (drop result list.new ≡ branch_path (graph_in n nodes.now) sx sy (endsOf rows.now m)) }
+    ensures { (result ≤ length list.new) × (drop result list.new ≡ branch_path (graph_in n nodes.now) sx sy (ends_of rows.now m)) }
 {
     if m <= FEW {
         let mut ex: [i32; FEW] = [0; FEW];
@@ -232,8 +232,8 @@ fn branch(
     requires searching { Searching n nodes.now cells.old tree.old list.old }
     requires page { Page (length x.old) (length y.old) (length letters.old) (length rows.old) }
     requires count_bound { (count ≤ 512) × (0 < m) × (m ≤ 4096) × (j < 256) × (768 ≤ length joins.old) }
-    ensures m_value { tried result.number (wires_out x.new y.new letters.new result.n rows.new result.m) ≡ route_branch (branch_line (graph_in n nodes.now) sx sy (endsOf rows.old m)) sx sy (alongFrom (graph_in n nodes.now) sx sy) (wires_in x.old y.old letters.old count rows.old m) }
-    ensures joins_value { joins.new ≡ join_branch (branch_line (graph_in n nodes.now) sx sy (endsOf rows.old m)) sx sy (alongFrom (graph_in n nodes.now) sx sy) (wires_in x.old y.old letters.old count rows.old m) joins.old j }
+    ensures m_value { tried result.number (wires_out x.new y.new letters.new result.n rows.new result.m) ≡ route_branch (branch_line (graph_in n nodes.now) sx sy (ends_of rows.old m)) sx sy (along_from (graph_in n nodes.now) sx sy) (wires_in x.old y.old letters.old count rows.old m) }
+    ensures joins_value { joins.new ≡ join_branch (branch_line (graph_in n nodes.now) sx sy (ends_of rows.old m)) sx sy (along_from (graph_in n nodes.now) sx sy) (wires_in x.old y.old letters.old count rows.old m) joins.old j }
 {
     let ahead = along(nodes, n, sx, sy);
     let at = branch_line(nodes, n, sx, sy, rows, m, cells, tree, list);

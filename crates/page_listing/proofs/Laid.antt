@@ -18,7 +18,7 @@ use Rattle.desk.specs.Desk.{book_of, seen_of}
 use Rattle.book.proofs.Keeps.{lists-ok}
 use Rattle.select.specs.Page.{flat, page_of}
 use Rattle.select.proofs.Ok.{few_nets}
-use Rattle.layout.specs.Answer.{layout_number as pageNumber}
+use Rattle.layout.specs.Answer.{layout_number as page_number}
 use Rattle.page_layout.specs.Drawing.{Drawing, drawing, bare, laid}
 use Rattle.desk_layout.specs.Layout.{choice, ok_choice, layout_number, left, is_lent, tested, says, shows, desk_number, desk_drawing}
 use Rattle.decimals.specs.Write.{digits, digits_in, tabbed, Put}
@@ -75,7 +75,7 @@ module _ (ws : List ℕ) (long : DESK ≤ length ws) (v : valid (book_of ws) ≡
   ok = rw (le-leb prune 1 hp, le-leb separate 1 hs)
 
   by-page : tested (seen_of ws) (choice prune separate) ≡ cond (crowded (page_of l)) 8 0
-  unfolding tested ranged answer layout_number pageNumber
+  unfolding tested ranged answer layout_number page_number
   by-page = rw (v, ok)
 
   number_is : n ≡ cond (crowded (page_of l)) 8 0

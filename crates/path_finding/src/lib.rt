@@ -13,7 +13,7 @@ ghost use Rattle.nodes.specs.Map.{Apart, Mapped};
 ghost use Rattle.astar.specs.Search.{chain};
 ghost use Rattle.astar.specs.Reached.{Ready, Below};
 ghost use Rattle.astar.specs.Scratch.{MARK, preds, marked, Marked, Traced};
-ghost use Rattle.path_finding.specs.Line.{has_link, admit, goals, line as lineS, table, place_at, kind_at, bit, direction_at, kept_at, pruned, Written};
+ghost use Rattle.path_finding.specs.Line.{has_link, admit, goals, line as line_s, table, place_at, kind_at, bit, direction_at, kept_at, pruned, Written};
 ghost use Rattle.path_finding.specs.Lent.{Room, Blank, Behind};
 ghost use Rattle.path_finding.specs.Places.{node_at, Answered, known_to, nodes_to};
 
@@ -386,7 +386,7 @@ pub fn find_line(
     requires ready { Ready (graph n nodes.now) × (GRAPH_WORDS ≤ length nodes.now) }
     requires start_lt_n { (start < n) × Below n (take k list.old) }
     requires room { Room n k cells.old tree.old list.old }
-    ensures { (result ≤ length list.new) × (drop result list.new ≡ lineS (graph_in n nodes.now) (take k list.old) start) }
+    ensures { (result ≤ length list.new) × (drop result list.new ≡ line_s (graph_in n nodes.now) (take k list.old) start) }
 {
     blank(cells, tree, n);
     let m = gather(nodes, n, k, cells, list);

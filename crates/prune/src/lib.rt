@@ -27,6 +27,7 @@ fn only(nodes: &[i32], n: usize, i: usize, d: usize, e: usize) -> bool
 }
 
 // The first of the two directions in which lines run straight through the node i, if it may go, else 4.
+#[tactic(auto, unfolding(crate::specs::Prune::straight))]
 fn straight(nodes: &[i32], n: usize, i: usize) -> usize
     requires { (i < n) × (n ≤ NODES) × (GRAPH_WORDS ≤ length nodes.now) }
     ensures { result ≡ straight (whole_in nodes.now).links (whole_in nodes.now).marks n i }

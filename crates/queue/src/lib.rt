@@ -5,8 +5,8 @@
 ghost use Rattle.std.specs.Prelude.{◌≡◌, ℕ, ◌+◌, ◌*◌, ◌≤◌, ◌<◌, min, length, get_or, set};
 ghost use Rattle.columns.specs.Columns.{Only};
 ghost use Rattle.queue.specs.Columns.{WIDTH, SUM, sums};
-ghost use Rattle.queue.specs.Queue.{NODES, top as topS, popped, after_pop};
-ghost use Rattle.queue.specs.Index.{LeastIn, Tree, Indexed, key as keyS};
+ghost use Rattle.queue.specs.Queue.{NODES, top as top_s, popped, after_pop};
+ghost use Rattle.queue.specs.Index.{LeastIn, Tree, Indexed, key as key_s};
 
 pub const NODES: usize = 4096;
 
@@ -45,7 +45,7 @@ fn least_in(cells: &[u64], n: usize, lo: usize, hi: usize) -> usize
 // The first least entry of all: the tree's least key tells it, unless no sum has a key.
 fn top(cells: &[u64], tree: &[u64], n: usize) -> usize
     requires { Indexed (sums n cells.now) tree.now × (n * WIDTH ≤ length cells.now) }
-    ensures { (result ≡ topS (sums n cells.now)) × (result < n) }
+    ensures { (result ≡ top_s (sums n cells.now)) × (result < n) }
 {
     let x = tree[1];
     if x < UNSET {
@@ -57,7 +57,7 @@ fn top(cells: &[u64], tree: &[u64], n: usize) -> usize
 // The key of the node v with the sum f.
 fn key(f: u64, v: usize) -> u64
     requires { v < NODES }
-    ensures { result ≡ keyS f v }
+    ensures { result ≡ key_s f v }
 {
     if f < TALL {
         f * 4096 + (v as u64)

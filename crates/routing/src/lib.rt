@@ -5,9 +5,9 @@
 ghost use Rattle.std.specs.Prelude.{◌≡◌, ◌+◌, ◌-◌, ◌*◌, ◌<◌, ◌≤◌, length, eqb};
 ghost use Rattle.vertex.specs.Pages.{carried};
 ghost use Rattle.wire.specs.Lines.{PathOn, path_in};
-ghost use Rattle.wire.specs.Wires.{ends as endsOf, Room, wires_in, wires_out};
-ghost use Rattle.routing.specs.Branches.{tried, fits as fitsIn, line_wire, fallback_wire, route_wire, joined_end, route_branch, put_junction, join_branch};
-ghost use Rattle.routing.specs.Roots.{slant as slantAt, slant_of, root_pair};
+ghost use Rattle.wire.specs.Wires.{ends as ends_of, Room, wires_in, wires_out};
+ghost use Rattle.routing.specs.Branches.{tried, fits as fits_in, line_wire, fallback_wire, route_wire, joined_end, route_branch, put_junction, join_branch};
+ghost use Rattle.routing.specs.Roots.{slant as slant_at, slant_of, root_pair};
 
 use vertex::Junction;
 
@@ -22,7 +22,7 @@ pub struct Step {
 // The size of |dx| - |dy| of the endpoints a and b.
 fn slant(xs: &[u32], ys: &[u32], a: usize, b: usize) -> u32
     requires { (a < length xs.now) × (b < length xs.now) × (length ys.now ≡ length xs.now) }
-    ensures { result ≡ slantAt xs.now ys.now a b }
+    ensures { result ≡ slant_at xs.now ys.now a b }
 {
     let dx = fixed::gap(xs[a], xs[b]);
     let dy = fixed::gap(ys[a], ys[b]);
@@ -58,7 +58,7 @@ pub fn pick_root_path(xs: &[u32], ys: &[u32]) -> usize
 // Whether v vertices and e ends more keep the limits.
 fn fits(n: usize, v: usize, m: usize, e: usize) -> bool
     requires { (n ≤ 512) × (v ≤ 8192) × (m ≤ 4096) × (e ≤ 8192) }
-    ensures { result ≡ fitsIn n v m e }
+    ensures { result ≡ fits_in n v m e }
 {
     (n + v <= 512) & (m + e <= 4096)
 }
@@ -177,7 +177,7 @@ fn joined_end(
 ) -> usize
     requires path_on { PathOn order nodes.now path.now }
     requires m_nonzero { (0 < m) × (m ≤ 4096) × (16384 ≤ length ends.now) }
-    ensures { (result ≡ joined_end (path_in order nodes.now path.now) sx sy (endsOf ends.now m)) × (result < m) }
+    ensures { (result ≡ joined_end (path_in order nodes.now path.now) sx sy (ends_of ends.now m)) × (result < m) }
 {
     if path.len() == 0 {
         return wire::nearest_end(ends, m, sx, sy);

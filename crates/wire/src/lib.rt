@@ -5,7 +5,7 @@
 ghost use Rattle.std.specs.Prelude.{◌≡◌, ◌+◌, ◌-◌, ◌*◌, ◌<◌, ◌≤◌, length, get_or, false, cond};
 ghost use Rattle.wire.specs.Ends.{put_end, stands, junction_end, end_distance, nearest_end};
 ghost use Rattle.wire.specs.Lines.{goes_on, kept_to, path_line, PathOn, path_in};
-ghost use Rattle.wire.specs.Wires.{ends as endsOf, wires, push_vertex, push_end, push_dummies, push_start, push_start_ends, Room, line_vertices, line_ends, corner_kind, push_corner, push_node, push_nodes, push_vertices, bent, fallback_vertices, push_bend, push_fallback_wire, push_fallback, vertices_in, vertices_out, wires_in, wires_out};
+ghost use Rattle.wire.specs.Wires.{ends as ends_of, wires, push_vertex, push_end, push_dummies, push_start, push_start_ends, Room, line_vertices, line_ends, corner_kind, push_corner, push_node, push_nodes, push_vertices, bent, fallback_vertices, push_bend, push_fallback_wire, push_fallback, vertices_in, vertices_out, wires_in, wires_out};
 
 use vertex::{Junction, Vertex, VertexKind};
 
@@ -184,7 +184,7 @@ fn push_start(
 // Adds an end behind m of them; their number then.
 fn push_end(ends: &mut [u32], m: usize, px: u32, py: u32, v: usize, kind: u32) -> usize
     requires { (m < 4096) × (4 * m + 3 < length ends.old) × (v < 4294967296) }
-    ensures { (result ≡ m + 1) × (endsOf ends.new result ≡ push_end px py v kind (endsOf ends.old m)) }
+    ensures { (result ≡ m + 1) × (ends_of ends.new result ≡ push_end px py v kind (ends_of ends.old m)) }
 {
     put_end(ends, m, px, py, v as u32, kind);
     m + 1
@@ -202,7 +202,7 @@ fn push_start_ends(
     requires path_on { PathOn order nodes.now path.now }
     requires path_nonzero { 0 < length path.now }
     requires m_bound { (m < 4095) × (4 * m + 7 < length ends.old) × (v < 512) }
-    ensures { (result ≡ m + 2) × (endsOf ends.new result ≡ push_start_ends (path_in order nodes.now path.now) v (endsOf ends.old m)) }
+    ensures { (result ≡ m + 2) × (ends_of ends.new result ≡ push_start_ends (path_in order nodes.now path.now) v (ends_of ends.old m)) }
 {
     let px = x_at(nodes, order, path, 0);
     let py = y_at(nodes, order, path, 0);
@@ -289,7 +289,7 @@ fn push_nodes(
     requires room { Room (length x.old) (length y.old) (length letters.old) }
     requires n_nonzero { (0 < n) × (n + kept_to (path_line order nodes.now path.now) (length path.now - 1) ≤ 512) }
     requires path_bound { (m + (length path.now - 1) ≤ 4096) × (16384 ≤ length ends.old) }
-    ensures { wires (vertices_out x.new y.new letters.new result) (endsOf ends.new (m + (length path.now - 1))) ≡ push_nodes (path_in order nodes.now path.now) junction (length path.now - 1) (wires_in x.old y.old letters.old n ends.old m) }
+    ensures { wires (vertices_out x.new y.new letters.new result) (ends_of ends.new (m + (length path.now - 1))) ≡ push_nodes (path_in order nodes.now path.now) junction (length path.now - 1) (wires_in x.old y.old letters.old n ends.old m) }
 {
     let mut total = n;
     let mut k = 0;
