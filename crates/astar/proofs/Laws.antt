@@ -1,12 +1,12 @@
 -- One turn of each loop, as an equation of the definitions.
-use Prim.Native.Nat.{ℕ, zero, suc, ◌+◌, ◌-◌, ◌*◌, ◌/◌, ◌≤◌, ◌<◌, zero-le, min}
+use Prim.Native.Nat.{ℕ, zero, suc, ◌+◌, ◌*◌, ◌≤◌, ◌<◌, zero-le, min}
 use mathlib.Core.Path.{◌≡◌, refl, sym, ap, ◌∙◌}
 use mathlib.Core.List.{List, [], ◌∷◌}
 use mathlib.Core.Bool.{Bool, true, false, cond}
 use native.Mathlib.Numerals.{add-one}
-use lib.ListN.{length, get_or, set, take, drop, drop_of_length-le, length-set, length-take, replicate, length-replicate, get_or-replicate}
+use lib.ListN.{length, get_or, set, take, drop, drop_of_length-le, replicate, get_or-replicate}
 use lib.Seq.{drop-cons, get_or-take, get_or-set_same, get_or-set_other}
-use lib.Dec.{ltb, leb, eqb}
+use lib.Dec.{eqb}
 use borrow.Author.Tests.{lt-ltb, le-ltb, eq-eqb, ne_eqb, eqb-true, eqb-false}
 use native.Mathlib.Omega.{arith}
 use Rattle.fixed.specs.Steps.{manhattan, penalty}
@@ -16,7 +16,7 @@ use Rattle.queue.specs.Queue.{UNSET}
 use Rattle.queue.specs.Index.{Indexed}
 use native.Mathlib.Nat.{add_assoc, le_refl}
 use Rattle.nodes.specs.Graph.{Graph, none, opposite, onward}
-use Rattle.astar.specs.Search.{FAR, MOVES, distance, dist, nearest, toward, arrives, arrival, run_length, straight_run, penalty_at, St, st, cost, replaced, replace, relax, begin}
+use Rattle.astar.specs.Search.{FAR, MOVES, distance, dist, nearest, toward, arrives, arrival, run_length, straight_run, penalty_at, St, cost, replaced, replace, relax, begin}
 use Rattle.astar.specs.Reached.{LIMIT, Ready}
 use Rattle.astar.proofs.Roads.{along, along-lt, link, goes_on, apart}
 use Rattle.columns.specs.Columns.{Only}

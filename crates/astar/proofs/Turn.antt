@@ -1,31 +1,31 @@
 -- A turn of the search keeps the state good and makes it fall; so the search ends, and its answer is right.
-use Prim.Native.Nat.{ℕ, zero, suc, ◌+◌, ◌-◌, ◌*◌, ◌/◌, ◌≤◌, ◌<◌, zero-le}
+use Prim.Native.Nat.{ℕ, zero, suc, ◌+◌, ◌*◌, ◌≤◌, ◌<◌, zero-le}
 use mathlib.Core.Path.{◌≡◌, refl, sym, ap, ◌∙◌, subst}
 use mathlib.Core.List.{List}
 use mathlib.Core.Bool.{Bool, true, false, cond}
 use native.Mathlib.Omega.{arith}
 use native.Mathlib.Decide.{ℕ_discrete, dec_lt}
-use native.Mathlib.Nat.{mul-le-mul, suc-mul}
+use native.Mathlib.Nat.{suc-mul}
 use lib.ListN.{length, get_or, set, length-set, replicate, length-replicate, get_or-replicate}
 use lib.Seq.{get_or-set_same, get_or-set_other}
-use lib.Dec.{ltb, eqb}
-use borrow.Author.Tests.{lt-ltb, le-ltb, eq-eqb, ne_eqb, ltb-true, ltb-false, eqb-true, eqb-false}
-use Rattle.queue.specs.Queue.{UNSET, least, top, popped, after_pop}
+use lib.Dec.{ltb}
+use borrow.Author.Tests.{lt-ltb, le-ltb, ne_eqb, ltb-true, ltb-false}
+use Rattle.queue.specs.Queue.{UNSET, top, popped, after_pop}
 use Rattle.queue.specs.declared.Popped.{Popped}
 use Rattle.queue.specs.declared.Popped.TheVariants.{At, Empty}
 use Rattle.queue.proofs.Ranges.{least-in}
 use Rattle.nodes.specs.Graph.{Graph, none, opposite, onward}
-use Rattle.astar.specs.Search.{HIGH, TURNS, St, st, dist, holds, arrival, penalty_at, relax, relax_to, expand, pop, run, out, Out, begin, found_of}
+use Rattle.astar.specs.Search.{HIGH, TURNS, St, holds, arrival, penalty_at, relax, relax_to, expand, pop, run, out, Out, begin, found_of}
 use Rattle.astar.specs.Reached.{Reach, start, onto}
 use Rattle.columns.specs.Columns.{Only}
-use Rattle.queue.specs.Columns.{WIDTH, SUM, sums}
+use Rattle.queue.specs.Columns.{SUM, sums}
 use Rattle.queue.specs.Index.{Indexed}
 use Rattle.astar.specs.Scratch.{estimates, marked, state, Marked, Held}
 use Rattle.astar.proofs.Roads.{Roads, STEEP}
 use Rattle.astar.specs.declared.Found
 use Rattle.astar.specs.declared.Found.{Found}
-use Rattle.astar.proofs.Count.{sum, cnt, one, one-le, one_in, sum-set, cnt-set, cnt-le}
-use Rattle.astar.proofs.State.{Inv, Link, mu, move, relax-inv, relax-falls, relax-mu, back-ok, Shape}
+use Rattle.astar.proofs.Count.{sum, one_in, sum-set, cnt-set, cnt-le}
+use Rattle.astar.proofs.State.{Inv, Link, mu, relax-inv, relax-falls, relax-mu, back-ok}
 
 -- ---- an expansion
 

@@ -11,7 +11,7 @@ use lib.Dec.{eqb, leb}
 use borrow.Author.Tests.{eq-eqb, ne_eqb, le-ltb, lt-ltb, le-leb, lt-leb}
 use Rattle.rows.specs.Rows.{count}
 use Rattle.block.specs.Sizes.{BLOCK}
-use Rattle.book.specs.Book.{Record, Lists, list, ok_lists, take_number}
+use Rattle.book.specs.Book.{Record, list, ok_lists, take_number}
 use Rattle.book.specs.Entries.{out, back, applies, restored, no_desk, before, is_held}
 use Rattle.block.specs.Block.{area, lists_of, Counted, without_row, with_row_at, block_before}
 use Rattle.book.specs.declared.Kind.{Kind}

@@ -12,20 +12,19 @@ use lib.ListN.{length, get_or, take, drop, length-replicate, get_or-replicate, t
 use lib.Dec.{leb, eqb}
 use borrow.Author.Tests.{leb-true, eqb-true}
 use Rattle.fixed.proofs.Bools.{and_left}
-use Rattle.rows.specs.Rows.{key}
 use Rattle.desk.specs.Sizes.{DESK}
 use Rattle.block.specs.Sizes.{PORTS_AT, NETS_AT, ENDS_AT}
-use Rattle.book.specs.Book.{Lists, Book, Seen, seen, valid, change, with_record, no_lists, book_with, no_book, Item, in_order}
+use Rattle.book.specs.Book.{Lists, Book, Seen, seen, valid, change, with_record, book_with, no_book, Item}
 use Rattle.desk.specs.Desk.{Sound, book_of, seen_of, sized, at0}
 use Rattle.block.specs.Block.{start}
-use Rattle.desk.specs.Calls.{Call as Edit, says as edit_says, does as edit_does, makes as edit_makes, number as edit_number}
+use Rattle.desk.specs.Calls.{Call as Edit, says as edit_says, does as edit_does, makes as edit_makes}
 use Rattle.desk.specs.Calls.Call.{add, retire, undo}
 use Rattle.book.specs.declared.Kind.{Kind}
 use Rattle.book.proofs.Fields.{answer-n, record-0}
 use Rattle.book.proofs.Keeps.{lists-ok}
 use Rattle.desk.proofs.Decode.{book-none}
 use Rattle.desk.proofs.Changes.{keeps, stands-for}
-use Rattle.desk.proofs.Longer.{lent-long, long-enough, seen-lent, book-lent, lent_by, sound-longer}
+use Rattle.desk.proofs.Longer.{lent-long, long-enough, book-lent, lent_by, sound-longer}
 use Rattle.book.proofs.Builds.{Builds, none as none-built, one, builds}
 use Rattle.page_text.specs.Reading.{read_text}
 use Rattle.page_text.specs.Words.{REFUSAL, is_lent, read_number, read_words, read_refusal, text_words}
@@ -33,10 +32,10 @@ use Rattle.page_text.proofs.Turns.{decoded}
 use Rattle.page_text.proofs.Limits.{length-text, ok-text, none-ok, valid-lists}
 use Rattle.desk_search.proofs.Booked.{says-whole, shows-whole, same-search, same-shown}
 use Rattle.desk_layout.proofs.Booked as Layout
-use Rattle.clue_desk.specs.Calls.{Call, Lent, Outputs, number, words, outputs, number_of, outputs_of, after, run, edit_undoes, is_undo, enough, says, tells, makes, told, told_outputs, turn, turns}
+use Rattle.clue_desk.specs.Calls.{Call, Lent, number, words, outputs, number_of, outputs_of, after, run, edit_undoes, is_undo, enough, says, tells, makes, told, told_outputs, turn, turns}
 use Rattle.clue_desk.specs.Calls.{Empty, ActsAsBook, fresh, FreshIsEmpty, adding, surviving, rebuilt, Demand}
 use Rattle.clue_desk.specs.Calls.Call.{edit, read, search, layout}
-use Rattle.clue_desk.specs.Calls.Outputs.{none, refused, lined, drawn}
+use Rattle.clue_desk.specs.Calls.Outputs.{lined, drawn}
 
 -- ---- one call on a sound desk of which the first n words are lent
 module _ (ws : List ℕ) (g : Sound ws) (n : ℕ) where

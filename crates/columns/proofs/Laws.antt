@@ -1,12 +1,12 @@
 -- The laws of columns: length, entries, a store, a fill.
-use Prim.Native.Nat.{ℕ, zero, suc, ◌+◌, ◌*◌, ◌≤◌, ◌<◌}
+use Prim.Native.Nat.{ℕ, suc, ◌+◌, ◌*◌, ◌≤◌, ◌<◌}
 use mathlib.Core.Path.{◌≡◌, refl, sym, ap, ◌∙◌}
-use mathlib.Core.List.{List, [], ◌∷◌, ◌++◌}
+use mathlib.Core.List.{List}
 use native.Mathlib.Omega.{arith}
 use native.Mathlib.Decide.{ℕ_discrete, dec_lt}
 use native.Mathlib.Nat.{suc-mul, mul-le-mul_right}
-use lib.ListN.{length, get_or, set, take, replicate, length-append, length-set, length-take, length-replicate, get_or-replicate, get_or-append}
-use lib.Seq.{get_or_at, get_or-set_same, get_or-set_other, get_or-take, ext_get_or}
+use lib.ListN.{length, get_or, set, take, replicate, length-set, length-take, length-replicate, get_or-replicate}
+use lib.Seq.{get_or-set_same, get_or-set_other, get_or-take, ext_get_or}
 use Rattle.fixed.specs.Columns.{cell}
 use Rattle.fixed.proofs.Columns.{length-pick, pick_at}
 use Rattle.columns.specs.Columns.{column, Only}

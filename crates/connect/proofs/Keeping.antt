@@ -1,8 +1,8 @@
 -- Routing a net leaves the vertices and junctions of earlier nets as they were, so that wiping behind them undoes it.
-use mathlib.Core.Path.{◌≡◌, refl, sym, ap, ◌∙◌}
+use mathlib.Core.Path.{◌≡◌, refl, ◌∙◌}
 use mathlib.Core.Bool.{Bool, true, false, cond, not, ◌||◌}
-use mathlib.Core.List.{List, []}
-use Prim.Native.Nat.{ℕ, zero, suc, ◌+◌, ◌-◌, ◌*◌, ◌<◌, ◌≤◌}
+use mathlib.Core.List.{List}
+use Prim.Native.Nat.{ℕ, zero, suc, ◌+◌, ◌-◌, ◌*◌, ◌≤◌}
 use native.Mathlib.Omega.{arith}
 use lib.Dec.{eqb}
 use lib.ListN.{length, get_or, take, set, length-set}
@@ -14,9 +14,9 @@ use Rattle.vertex.specs.declared.Junction.{Junction}
 use Rattle.vertex.specs.declared.VertexKind.{VertexKind}
 use Rattle.wire.specs.Ends.{end_vertex, end_kind}
 use Rattle.wire.specs.Lines.{Line, straight}
-use Rattle.wire.specs.Wires.{Vertices, vertices, Wires, wires, push_vertex, push_dummies, push_start, push_start_ends, push_end, push_corner, corner_kind, push_node, push_nodes, push_vertices, bent, corner_x, corner_y, push_bend, push_fallback_wire, push_fallback, line_vertices, line_ends, fallback_vertices}
+use Rattle.wire.specs.Wires.{Vertices, vertices, Wires, wires, push_vertex, push_dummies, push_start, push_corner, push_node, push_nodes, push_vertices, bent, corner_x, corner_y, push_bend, push_fallback_wire, push_fallback, line_vertices, line_ends, fallback_vertices}
 use Rattle.routing.specs.Branches.{Tried, tried, fits, line_wire, fallback_wire, route_wire, joined_end, route_branch, put_junction, join_branch}
-use Rattle.net.specs.Nets.{Branched, branched, along, root_wire, branch_line, branch_from, branch_at, branches_to, refused, no_ends, route_net, root_from, root_to}
+use Rattle.net.specs.Nets.{Branched, along, root_wire, branch_line, branch_from, branch_at, branches_to, refused, no_ends, route_net, root_from, root_to}
 
 -- the vertices of P stand in Q as they did
 pub record Kept (P Q : Vertices) : Type 0 where

@@ -1,22 +1,22 @@
 -- The turns of a net are its root wire and its branches; each ending of `connect_net` is what the definition says.
 use mathlib.Core.Path.{◌≡◌, refl, sym, ap, ◌∙◌, subst}
 use mathlib.Core.Bool.{Bool, true, false, cond}
-use mathlib.Core.List.{List, [], ◌++◌}
+use mathlib.Core.List.{List}
 use Prim.Native.Nat.{ℕ, zero, suc, ◌+◌, ◌-◌, ◌*◌, ◌/◌, ◌%◌, ◌<◌, ◌≤◌}
 use native.Mathlib.Numerals.{add-one}
 use native.Mathlib.Omega.{arith}
 use native.Mathlib.Decide.{dec_lt}
-use lib.Dec.{eqb, ltb}
-use lib.ListN.{length, get_or, take, replicate, length-replicate}
+use lib.Dec.{ltb}
+use lib.ListN.{length, replicate, length-replicate}
 use borrow.Author.Tests.{eq-eqb, ne_eqb, lt-ltb, le-ltb}
 use Rattle.nodes.specs.Graph.{Graph}
 use Rattle.path_finding.specs.Places.{known}
-use Rattle.wire.specs.Wires.{Vertices, vertices, Ends, ends as ends_of, Wires, wires}
+use Rattle.wire.specs.Wires.{Vertices, vertices, ends as ends_of, Wires, wires}
 use Rattle.routing.specs.Branches.{Tried, tried}
 use Rattle.routing.specs.Roots.{slant_of, root_to as pair_to, root_pair}
 use Rattle.routing.proofs.Pairs.{square-least, first-in, second-in}
 use Rattle.net.specs.Lent.{Page}
-use Rattle.net.specs.Nets.{Branched, branched, root_wire, branch_at, branches_to, Net, net, refused, kept, END_WORDS, no_ends, route_net, connect_net}
+use Rattle.net.specs.Nets.{Branched, branched, root_wire, branch_at, branches_to, Net, refused, kept, END_WORDS, no_ends, route_net, connect_net}
 use Rattle.net.proofs.Branching.{Bounded, bounds-now, wire-bounds}
 use Rattle.connect.specs.Turns.{turn_at, turns_to, outcome}
 use Rattle.connect.proofs.Keeping.{net-still, wiped}

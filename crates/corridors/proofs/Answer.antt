@@ -1,7 +1,7 @@
 -- The three columns of the answer: what the definition lists.
 --     length-directions, directions-on    how many directions there are, and one more
 --     answered-full, answered             the two ends of `generate_implicit_anchors`
-use mathlib.Core.Path.{◌≡◌, refl, sym, ◌∙◌}
+use mathlib.Core.Path.{◌≡◌, refl, ◌∙◌}
 use mathlib.Core.Bool.{true, false, cond}
 use mathlib.Core.List.{List, [], ◌∷◌, ◌++◌}
 use Prim.Native.Nat.{ℕ, zero, suc, ◌+◌, ◌*◌, ◌<◌, ◌≤◌}
@@ -11,12 +11,12 @@ use borrow.Author.Tests.{lt-ltb, le-ltb}
 use lib.Dec.{ltb}
 use lib.IntN.{ℤ}
 use lib.ListN.{length, get_or, set, length-append}
-use lib.Seq.{get_or-set_same, get_or-set_other, ext_get_or}
+use lib.Seq.{get_or-set_same, get_or-set_other}
 use Rattle.fixed.specs.Up.{ups}
 use Rattle.fixed.specs.Constants.{COORDS}
 use Rattle.fixed.specs.Columns.{column}
 use Rattle.fixed.proofs.Lists.{length-ups}
-use Rattle.fixed.proofs.Columns.{length-column, column-at, column-none, column-more, column-same, beyond}
+use Rattle.fixed.proofs.Columns.{length-column, column-none, column-more, column-same, beyond}
 use Rattle.corridors.specs.Sizes.{ANCHORS, TOO_MANY, X, Y}
 use Rattle.corridors.specs.Merge.{Anchors, directions}
 use Rattle.corridors.specs.Answer.{number, Answered}

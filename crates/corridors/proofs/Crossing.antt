@@ -5,10 +5,10 @@ use Prim.Native.Nat.{ℕ, zero, suc, ◌+◌, ◌-◌, ◌/◌, ◌%◌, ◌<◌
 use native.Mathlib.Omega.{arith}
 use lib.IntN.{ℤ}
 use lib.ListN.{length, get_or, take, drop, length-append, length-drop}
-use lib.Seq.{get_or-take, get_or-drop, length-take-le, ext_get_or}
+use lib.Seq.{length-take-le}
 use Rattle.fixed.specs.Up.{ups}
 use Rattle.fixed.specs.Columns.{column}
-use Rattle.fixed.proofs.Lists.{length-ups, ups-take, ups-drop}
+use Rattle.fixed.proofs.Lists.{length-ups, ups-take}
 use Rattle.fixed.proofs.Columns.{length-column, column-none, part-column}
 use Rattle.axis.specs.Axis.{edges}
 use Rattle.corridors.specs.Sizes.{SPAN, ANCHORS}

@@ -15,7 +15,7 @@ use Rattle.book.specs.Sizes.{COPIES}
 use Rattle.block.specs.Sizes.{BLOCK, PORTS_AT, NETS_AT, ENDS_AT}
 use Rattle.desk.specs.Sizes.{NEXT, ENTRY, LATER, DESK}
 use Rattle.book.specs.Book.{Record, Lists, Book, list, width, most, with_record, change, back as back-of, no_lists, book_with, no_book}
-use Rattle.book.specs.Entries.{Entry, none, before as Before-of, copies}
+use Rattle.book.specs.Entries.{Entry, before as Before-of, copies}
 use Rattle.block.specs.Block.{start, size, area, list_of, lists_of, with_row}
 use Rattle.desk.specs.Desk.{block, with_block, entries_of, book_of, laid, latest, unlaid, Ready, taken, emptied, entry_of}
 use Rattle.book.specs.declared.Kind.{Kind}

@@ -7,7 +7,6 @@ use borrow.Author.Tests.{leb-true, not-true, not-false}
 use lib.Dec.{leb, eqb}
 use lib.IntN.{ℤ}
 use lib.ListN.{length}
-use Rattle.fixed.specs.Up.{ups}
 use Rattle.fixed.proofs.Bools.{and_left, and_right}
 use Rattle.fixed.proofs.Lists.{length-ups}
 use Rattle.anchors.specs.Records.{Records, records}
@@ -16,7 +15,7 @@ use Rattle.page_graph.specs.Claims.{Placed}
 use Rattle.layout.specs.Answer.{layout_number as page_number}
 use Rattle.page_layout.specs.Drawing.{Drawing, drawing, laid}
 use Rattle.desk.specs.Sizes.{DESK}
-use Rattle.book.specs.Book.{Lists, Seen, ok_lists, valid, ranged, answer}
+use Rattle.book.specs.Book.{Lists, Seen, valid, ranged, answer}
 use Rattle.desk.specs.Desk.{book_of, seen_of, sized}
 use Rattle.book.proofs.Keeps.{lists-ok}
 use Rattle.desk.proofs.Whole.{sound-at, unsound-at}

@@ -1,10 +1,10 @@
 -- A search as a call: what its answer and its outputs are at each return.
 use mathlib.Core.Path.{◌≡◌, refl, sym, ap, ◌∙◌}
-use mathlib.Core.List.{List, [], ◌∷◌}
+use mathlib.Core.List.{List, []}
 use mathlib.Core.Bool.{Bool, true, false, not, cond, ◌&&◌}
-use Prim.Native.Nat.{ℕ, ◌<◌, ◌≤◌}
+use Prim.Native.Nat.{ℕ, ◌≤◌}
 use native.Mathlib.Omega.{arith}
-use borrow.Author.Tests.{leb-true, le-leb, eqb-true, eqb-false, not-true, not-false}
+use borrow.Author.Tests.{leb-true, eqb-true, eqb-false, not-true, not-false}
 use lib.Dec.{leb, eqb}
 use lib.IntN.{ℤ}
 use lib.ListN.{length}
@@ -19,7 +19,7 @@ use Rattle.search.specs.Searched.{Ended}
 use Rattle.page_graph.specs.declared.Graphed.{Graphed}
 use Rattle.page_graph.specs.Page.{crowded, graph_of_page}
 use Rattle.page_graph.specs.Lent.{Asked, Answered}
-use Rattle.page_search.specs.Page.{PageSearched, search_number as page_number, search_line as page_line}
+use Rattle.page_search.specs.Page.{PageSearched, search_line as page_line}
 use Rattle.page_search.specs.Lent.{Tried, Searchable}
 use Rattle.page_search.specs.Exists.{Sound, PageTold}
 use Rattle.page_search.proofs.Building.{searchable, page-searched}

@@ -1,13 +1,11 @@
 -- The search's claim on a desk: a valid page that is not crowded has what the claim on its records asks.
-use mathlib.Core.Path.{◌≡◌, refl, sym, ap, ◌∙◌}
-use mathlib.Core.Bool.{Bool, true, false, cond, ◌&&◌}
-use mathlib.Core.List.{List, []}
-use Prim.Native.Nat.{ℕ, ◌+◌, ◌*◌, ◌<◌, ◌≤◌}
+use mathlib.Core.Path.{◌≡◌, refl, ◌∙◌}
+use mathlib.Core.Bool.{Bool, true, false, cond}
+use Prim.Native.Nat.{ℕ}
 use native.Mathlib.Omega.{arith}
-use lib.ListN.{length, get_or}
+use lib.ListN.{length}
 use Rattle.astar.specs.Reached.{LIMIT}
-use Rattle.path_finding.specs.Places.{number}
-use Rattle.page_graph.specs.Page.{crowded, graph_of_page}
+use Rattle.page_graph.specs.Page.{crowded}
 use Rattle.page_search.specs.Page.{search_number as page_number}
 use Rattle.page_search.specs.Exists.{Sound, Owned, Holds as PageHolds, port as page-port, unported}
 use Rattle.page_search.proofs.Theorem.{page-line-exists}
@@ -20,7 +18,7 @@ use Rattle.select.proofs.Listed.{word_at}
 use Rattle.select.proofs.Asked.{asked}
 use Rattle.select.proofs.Ok.{ports, ends, port-boxes, end-nets, port_words, end_words}
 use Rattle.desk_search.specs.Query.{Query, is_pruned, ok_query}
-use Rattle.desk_search.specs.Search.{Outputs, is_lent, search_number, tested, says, desk_number}
+use Rattle.desk_search.specs.Search.{is_lent, search_number, tested, says}
 use Rattle.desk_search.specs.Exists.{Holds, AllHold, unpruned, Decided, SearchDecides}
 use Rattle.desk_search.specs.Exists.Holds.{port, end}
 

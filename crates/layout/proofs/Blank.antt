@@ -1,5 +1,5 @@
 -- A page with nothing on it: zeros behind no entry are zeros everywhere.
-use mathlib.Core.Path.{◌≡◌, refl, ap, ◌∙◌}
+use mathlib.Core.Path.{◌≡◌, ap, ◌∙◌}
 use mathlib.Core.List.{List}
 use Prim.Native.Nat.{ℕ, ◌-◌}
 use native.Mathlib.Omega.{arith}
@@ -8,9 +8,9 @@ use lib.ListN.{length, replicate}
 use Rattle.fixed.specs.Up.{BIAS, ups}
 use Rattle.fixed.proofs.Lists.{length-ups}
 use Rattle.zeros.specs.Zeros.{closed}
-use Rattle.wire.specs.Wires.{Vertices, vertices}
+use Rattle.wire.specs.Wires.{vertices}
 use Rattle.net.specs.Nets.{Net, net, refused}
-use Rattle.layout.specs.Layout.{Page, page, blank}
+use Rattle.layout.specs.Layout.{page, blank}
 
 all_closed : (z : ℕ) (l : List ℕ) → closed z 0 l ≡ replicate (length l) z
 unfolding closed

@@ -2,7 +2,7 @@
 use mathlib.Core.Path.{◌≡◌, refl}
 use mathlib.Core.Bool.{Bool, true, false, cond}
 use mathlib.Core.List.{List, [], ◌∷◌}
-use Prim.Native.Nat.{ℕ, ◌*◌, ◌≤◌}
+use Prim.Native.Nat.{ℕ}
 use native.Mathlib.Omega.{arith}
 use borrow.Author.Tests.{eqb-true}
 use lib.Dec.{eqb, ltb}
@@ -11,7 +11,7 @@ use Rattle.vertex.specs.declared.Junction.TheVariants.{None}
 use Rattle.wire.specs.Wires.{Vertices, wires}
 use Rattle.nodes.specs.Graph.{Graph}
 use Rattle.path_finding.specs.Places.{known}
-use Rattle.net.specs.Nets.{Net, net, Branched, branched, root_from, root_to, root_wire, found_line, along, no_ends, route_net, refused, kept, connect_net}
+use Rattle.net.specs.Nets.{net, Branched, branched, root_from, root_to, root_wire, found_line, along, no_ends, route_net, refused, kept, connect_net}
 use Rattle.layout.specs.Layout.{Fit}
 use Rattle.net.proofs.Branching.{Bounded, wire-bounds, bounds-now}
 

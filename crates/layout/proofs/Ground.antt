@@ -2,7 +2,6 @@
 use mathlib.Core.Path.{◌≡◌}
 use mathlib.Core.Bool.{Bool, false}
 use Prim.Native.Nat.{ℕ, ◌+◌, ◌-◌, ◌<◌, ◌≤◌}
-use native.Mathlib.Omega.{arith}
 use Rattle.fixed.specs.Constants.{PADDING, LEAST, GREATEST}
 use Rattle.astar.specs.Reached.{LIMIT}
 use Rattle.anchors.specs.Records.{Records}

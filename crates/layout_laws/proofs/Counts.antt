@@ -1,10 +1,10 @@
 -- The rows of a page's nets count its vertices and its junctions.
-use mathlib.Core.Path.{◌≡◌, refl, sym, ap, ◌∙◌}
+use mathlib.Core.Path.{◌≡◌, sym, ap, ◌∙◌}
 use mathlib.Core.Bool.{Bool, true, false, cond}
 use mathlib.Core.List.{List}
-use Prim.Native.Nat.{ℕ, zero, suc, ◌+◌, ◌-◌, ◌*◌, ◌<◌, ◌≤◌}
+use Prim.Native.Nat.{ℕ, zero, suc, ◌*◌, ◌≤◌}
 use native.Mathlib.Omega.{arith}
-use lib.ListN.{length, get_or}
+use lib.ListN.{length}
 use Rattle.nodes.specs.Graph.{Graph}
 use Rattle.anchors.specs.Records.{Records}
 use Rattle.page_graph.specs.Page.{crowded, graph_of_page}
@@ -15,7 +15,7 @@ use Rattle.page_laws.specs.Connected.{Ground}
 use Rattle.page_laws.specs.Connected as Connected
 use Rattle.page_laws.specs.Nets as Nets
 use Rattle.page_laws.proofs.Theorems.{all-nets}
-use Rattle.layout.specs.Layout.{NET_ROW, Page, nets_to, parted, drawn}
+use Rattle.layout.specs.Layout.{NET_ROW, Page, parted, drawn}
 use Rattle.layout.specs.Separated.{separated}
 use Rattle.layout.specs.Answer.{routed, layout_page}
 use Rattle.layout.proofs.Nets.{xs_of, ys_of, same-nets}

@@ -1,13 +1,13 @@
 -- Each net of a page by its row: before separation, and after.
-use mathlib.Core.Path.{◌≡◌, refl, sym, ap, ◌∙◌}
+use mathlib.Core.Path.{◌≡◌, refl, ◌∙◌}
 use mathlib.Core.List.{List, ◌++◌}
-use Prim.Native.Nat.{ℕ, zero, suc, ◌+◌, ◌-◌, ◌*◌, ◌<◌, ◌≤◌}
+use Prim.Native.Nat.{ℕ, ◌+◌, ◌-◌, ◌*◌, ◌<◌, ◌≤◌}
 use native.Mathlib.Omega.{arith}
-use lib.ListN.{length, get_or, take, drop, get_or-append}
+use lib.ListN.{length, take, drop, get_or-append}
 use lib.Seq.{take_at}
 use Rattle.nodes.specs.Graph.{Graph}
-use Rattle.vertex.specs.Pages.{holder, joiner, Within}
-use Rattle.fixup.specs.Promises.{REACH, Bounded}
+use Rattle.vertex.specs.Pages.{Within}
+use Rattle.fixup.specs.Promises.{REACH}
 use Rattle.wire.specs.Wires.{Vertices}
 use Rattle.net.specs.Nets.{Net}
 use Rattle.page_laws.specs.Connected.{Ground, Touched}
@@ -18,7 +18,7 @@ use Rattle.page_laws.proofs.Separate.{page-bounded, endpoint-stays}
 use Rattle.page_laws.proofs.Theorems.{all-nets}
 use Rattle.layout.specs.Layout.{NET_ROW, Page, nets_to, parted}
 use Rattle.layout.specs.Separated.{apart, separated}
-use Rattle.layout.proofs.Nets.{xs_of, ys_of, same-nets, nets-good}
+use Rattle.layout.proofs.Nets.{xs_of, ys_of, same-nets}
 use Rattle.layout_laws.specs.Laid.{NetLaid}
 use Rattle.layout_laws.proofs.Rows.{RowOf, rows_are}
 

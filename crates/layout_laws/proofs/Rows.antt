@@ -1,5 +1,5 @@
 -- The row of a net, once written, stays.
-use mathlib.Core.Path.{◌≡◌, refl, sym, ap, ◌∙◌}
+use mathlib.Core.Path.{◌≡◌, refl, ap, ◌∙◌}
 use mathlib.Core.List.{List}
 use Prim.Native.Nat.{ℕ, zero, suc, ◌+◌, ◌-◌, ◌*◌, ◌<◌, ◌≤◌}
 use native.Mathlib.Decide.{ℕ_discrete}
@@ -8,10 +8,10 @@ use lib.ListN.{length, get_or, set, length-set}
 use lib.Seq.{get_or-set_same, get_or-set_other}
 use Rattle.nodes.specs.Graph.{Graph}
 use Rattle.anchors.specs.Records.{NET}
-use Rattle.net.specs.Nets.{Net, connect_net}
+use Rattle.net.specs.Nets.{Net}
 use Rattle.page_laws.specs.Nets as Nets
 use Rattle.layout.specs.Layout.{NET_ROW, put_net, Page, with_net, net_of, nets_to}
-use Rattle.layout.proofs.Nets.{Same, xs_of, ys_of, same-nets}
+use Rattle.layout.proofs.Nets.{xs_of, ys_of, same-nets}
 
 module _ (R : List ℕ) (i a b c d e : ℕ) where
   -- the row half written

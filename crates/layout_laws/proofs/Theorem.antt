@@ -1,10 +1,9 @@
 -- A page that is laid out from records: each net by its row, and where its vertices lie.
-use mathlib.Core.Path.{◌≡◌, refl}
+use mathlib.Core.Path.{◌≡◌}
 use mathlib.Core.Bool.{Bool, true, false, cond}
 use mathlib.Core.List.{List}
-use Prim.Native.Nat.{ℕ, ◌+◌, ◌-◌, ◌<◌, ◌≤◌}
+use Prim.Native.Nat.{ℕ, ◌+◌, ◌-◌}
 use native.Mathlib.Omega.{arith}
-use lib.ListN.{get_or}
 use Rattle.vertex.specs.Pages.{Within}
 use Rattle.fixup.specs.Promises.{REACH}
 use Rattle.anchors.specs.Records.{Records}
@@ -13,12 +12,12 @@ use Rattle.page_graph.specs.Lent.{Asked}
 use Rattle.page_graph.specs.Claims.{Placed}
 use Rattle.page_laws.specs.Connected.{Ground}
 use Rattle.page_laws.specs.Connected as Connected
-use Rattle.layout.specs.Layout.{Page, nets_to, parted, drawn}
+use Rattle.layout.specs.Layout.{Page, parted, drawn}
 use Rattle.layout.specs.Separated.{separated}
 use Rattle.layout.specs.Answer.{routed, layout_page}
 use Rattle.layout.proofs.Nets.{nets-good}
 use Rattle.layout.proofs.Ground.{page-ground}
-use Rattle.layout_laws.specs.Laid.{LOW, HIGH, NetLaid, LaidOut, Ready, Layout}
+use Rattle.layout_laws.specs.Laid.{LOW, HIGH, LaidOut, Ready, Layout}
 use Rattle.layout_laws.proofs.Nets.{nets-laid, separated-x, separated-y, parted-laid}
 
 wider : {n : ℕ} (l : List ℕ) → Within LOW HIGH n l → Within (LOW - REACH) (HIGH + REACH) n l

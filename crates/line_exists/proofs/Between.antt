@@ -1,15 +1,13 @@
 -- A search between places that all are nodes: the number is 0 exactly if the start is joined to an end with a link, else 11.
 use mathlib.Core.Path.{◌≡◌, refl, sym, ap, ◌∙◌, subst}
 use mathlib.Core.Logic.{◌⊎◌, inl, inr, ⊎_elim}
-use mathlib.Core.Bool.{Bool, true, false, cond, ◌&&◌}
-use mathlib.Core.List.{List, [], ◌∷◌, ◌++◌}
+use mathlib.Core.Bool.{true, cond}
+use mathlib.Core.List.{List, [], ◌∷◌}
 use Prim.Native.Nat.{ℕ, zero, suc, ◌<◌, ◌≤◌}
-use native.Mathlib.Decide.{ℕ_discrete}
 use native.Mathlib.Omega.{arith}
 use borrow.Author.Tests.{lt-ltb, ne_eqb}
-use lib.Dec.{eqb, ltb}
-use lib.ListN.{length, get_or, get_or-append}
-use lib.Seq.{get_or_at}
+use lib.Dec.{eqb}
+use lib.ListN.{length, get_or}
 use Rattle.fixed.proofs.Bools.{and_both}
 use Rattle.nodes.specs.Chains.{Chain, Place}
 use Rattle.nodes.specs.Graph.{Graph, seek, find}
@@ -17,7 +15,7 @@ use Rattle.nodes.specs.Wf.{Far, At}
 use Rattle.nodes.proofs.Sound.{found, found-there, found-is}
 use Rattle.astar.specs.Reached.{Ready, Reach, start}
 use Rattle.path_finding.specs.Claims.{Goal, Right}
-use Rattle.path_finding.specs.Line.{has_link, line, table}
+use Rattle.path_finding.specs.Line.{has_link, line}
 use Rattle.path_finding.specs.Places.{node_at, known, start_of, ends_of, line_between, number}
 use Rattle.path_finding.proofs.Lines.{table-length, table_at}
 use Rattle.path_finding.proofs.Theorems.{right}

@@ -1,5 +1,5 @@
 -- The marked case of the search, by computing.
-use mathlib.Core.Path.{◌≡◌, refl}
+use mathlib.Core.Path.{refl}
 use Rattle.sightline.specs.Count.{any, run}
 use Rattle.sightline.specs.Sight.{stops, box_stops, blocked, clear_after, clear_before}
 use Rattle.axis.specs.Axis.{rank, index, holds as on_axis, insert, inserts}

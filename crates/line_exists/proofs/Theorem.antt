@@ -1,21 +1,20 @@
 -- A line is found exactly if there is one: the search's claim on the graph that is handed back, and what pruning keeps of the whole one.
-use mathlib.Core.Path.{◌≡◌, sym, ◌∙◌, subst}
+use mathlib.Core.Path.{◌≡◌, sym, ◌∙◌}
 use mathlib.Core.Bool.{Bool, true, false}
 use mathlib.Core.List.{List}
-use Prim.Native.Nat.{ℕ, ◌<◌, ◌≤◌}
+use Prim.Native.Nat.{ℕ, ◌<◌}
 use native.Mathlib.Decide.{ℕ_discrete}
 use native.Mathlib.Omega.{arith}
 use lib.ListN.{length, get_or}
-use Rattle.nodes.specs.Chains.{Place, Explicit, Keeps}
+use Rattle.nodes.specs.Chains.{Place, Keeps}
 use Rattle.nodes.specs.Graph.{Graph}
-use Rattle.nodes.specs.Wf.{Wf}
 use Rattle.scan.specs.Scan.{Anchors}
 use Rattle.graph.specs.Build.{Boxes, whole, made}
 use Rattle.graph.proofs.Coordinates.{made-stands}
 use Rattle.graph.proofs.Theorem.{made-wf, made-keeps, made-explicit}
 use Rattle.astar.specs.Reached.{LIMIT, Ready}
 use Rattle.path_finding.specs.Places.{number}
-use Rattle.line_exists.specs.Exists.{Named, Asked, Joined, Decided, LineExists}
+use Rattle.line_exists.specs.Exists.{Named, Asked, Joined, LineExists}
 use Rattle.line_exists.proofs.Low.{Below, stands-low}
 use Rattle.line_exists.proofs.Between.{found-by, joined_by, missed_by}
 

@@ -1,17 +1,17 @@
 -- `LineExists` is not empty: the marked case is one of it, and there it decides both ways.
-use mathlib.Core.Path.{◌≡◌, refl, sym, ◌∙◌}
-use mathlib.Core.Bool.{true, false}
-use mathlib.Core.List.{List, [], ◌∷◌}
+use mathlib.Core.Path.{refl}
+use mathlib.Core.Bool.{true}
+use mathlib.Core.List.{[], ◌∷◌}
 use Prim.Native.Nat.{ℕ, zero, suc, ◌<◌, ◌≤◌}
 use native.Mathlib.Omega.{arith}
-use lib.ListN.{length, get_or}
+use lib.ListN.{get_or}
 use Rattle.nodes.specs.Graph.{NODES}
 use Rattle.graph.specs.Build.{whole, made}
 use Rattle.graph.specs.Cases.{at, one_box, ports}
 use Rattle.graph.proofs.Cases as Graphs
 use Rattle.astar.specs.Reached.{LIMIT}
-use Rattle.line_exists.specs.Exists.{Named, Asked, Joined, Decided}
-use Rattle.line_exists.specs.Cases.{AskedTo, JoinedTo, Witness}
+use Rattle.line_exists.specs.Exists.{Named, Asked, Decided}
+use Rattle.line_exists.specs.Cases.{Witness}
 use Rattle.line_exists.proofs.Cases.{cases}
 use Rattle.line_exists.proofs.Theorem.{line-exists}
 

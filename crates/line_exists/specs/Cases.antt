@@ -1,6 +1,6 @@
 -- 01, 'Cases at the edges': *'one box with ports (0,0) PosX, (20,0) NegX, (10,40) no direction, the box at the point (1000,1000)': first to third port is 11.
 -- Beside it: first to second port is found. Both are cases of `LineExists`: what it asks is so, and by it the places are joined, or not.
-use Rattle.std.specs.Prelude.{ℕ, ◌≡◌, Bool, true, false, List, [], ◌∷◌}
+use Rattle.std.specs.Prelude.{ℕ, ◌≡◌, Bool, true, false, [], ◌∷◌}
 use Rattle.graph.specs.Build.{whole, made}
 use Rattle.graph.specs.Cases.{at, one_box, ports}
 use Rattle.path_finding.specs.Places.{number}

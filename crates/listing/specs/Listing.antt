@@ -1,6 +1,6 @@
 -- 01, 'Program `wires`': the listing's bytes. Each line opens with its word; tabs part fields, LF ends it; indices start at 0 in each net.
-use Rattle.std.specs.Prelude.{◌≡◌, cond, List, [], ◌∷◌, ◌++◌, ℕ, zero, suc, ◌+◌, ◌-◌, ◌*◌, ◌%◌, ◌<◌, ◌≤◌, eqb, length, get_or, take}
-use Rattle.decimals.specs.Bytes.{TAB, LF}
+use Rattle.std.specs.Prelude.{◌≡◌, cond, List, [], ◌∷◌, ◌++◌, ℕ, zero, suc, ◌+◌, ◌-◌, ◌*◌, ◌%◌, ◌≤◌, eqb, length, get_or, take}
+use Rattle.decimals.specs.Bytes.{LF}
 use Rattle.decimals.specs.Write.{digits, signed, tabbed}
 
 -- the pieces f 0, f 1, .. below n, one after another

@@ -1,18 +1,18 @@
 -- One branch after another: what the code has is what the definitions say, and no wire goes over the bounds of page and net.
-use mathlib.Core.Path.{◌≡◌, refl, sym, ap, ◌∙◌, subst}
+use mathlib.Core.Path.{◌≡◌, refl, sym, ap, subst}
 use mathlib.Core.Bool.{Bool, true, false, cond, not, ◌||◌}
-use mathlib.Core.List.{List, []}
+use mathlib.Core.List.{List}
 use Prim.Native.Nat.{ℕ, zero, suc, ◌+◌, ◌*◌, ◌<◌, ◌≤◌}
 use native.Mathlib.Numerals.{add-one}
 use native.Mathlib.Omega.{arith}
 use lib.Dec.{eqb}
-use lib.ListN.{length, get_or}
+use lib.ListN.{get_or}
 use borrow.Author.Tests.{eq-eqb, ne_eqb, eqb-true, eqb-false}
 use Rattle.nodes.specs.Graph.{Graph}
 use Rattle.vertex.specs.declared.Junction.{Junction}
 use Rattle.wire.specs.Lines.{Line}
 use Rattle.wire.specs.Wires.{Vertices, vertices, Ends, ends as ends_of, Wires, wires, push_vertices, push_fallback, line_vertices, line_ends, fallback_vertices}
-use Rattle.routing.specs.Branches.{Tried, tried, Limited, fits, line_wire, fallback_wire, route_wire, route_branch, join_branch}
+use Rattle.routing.specs.Branches.{Tried, tried, fits, line_wire, fallback_wire, route_wire, route_branch, join_branch}
 use Rattle.routing.proofs.Limits.{line-m, fallback-m, limited}
 use Rattle.net.specs.Lent.{Bounds}
 use Rattle.net.specs.Nets.{Branched, branched, along, branch_line, branch_from, branch_at, branches_to}

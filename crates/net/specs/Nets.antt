@@ -1,6 +1,6 @@
 -- 01, 'Nets' (`connect_net`) and 'Numbers handed back' 12 to 15: one net on a built graph. G is the graph; px and py are the columns of the net's endpoints.
 -- The page's vertices and junctions hold those of earlier nets too, and all indices are the page's.
-use Rattle.std.specs.Prelude.{Bool, true, false, ◌||◌, not, cond, List, [], ◌∷◌, ℕ, zero, suc, ◌+◌, ◌*◌, ◌/◌, ◌%◌, eqb, ltb, length, get_or, replicate, ℤ}
+use Rattle.std.specs.Prelude.{Bool, true, ◌||◌, not, cond, List, [], ◌∷◌, ℕ, zero, suc, ◌+◌, ◌*◌, ◌/◌, ◌%◌, eqb, ltb, length, get_or, replicate, ℤ}
 use Rattle.fixed.specs.Up.{BIAS}
 use Rattle.nodes.specs.Graph.{Graph, seek}
 use Rattle.path_finding.specs.Line.{table}

@@ -1,9 +1,9 @@
 -- A net in the making stays good with every wire: the root wire and the branches.
 use mathlib.Core.Path.{◌≡◌, refl, sym, ap, ◌∙◌}
-use mathlib.Core.Bool.{Bool, true, false, cond, not}
+use mathlib.Core.Bool.{Bool, true, false, cond}
 use mathlib.Core.List.{List}
 use mathlib.Core.Logic.{◌⊎◌}
-use Prim.Native.Nat.{ℕ, zero, suc, ◌+◌, ◌-◌, ◌*◌, ◌<◌, ◌≤◌}
+use Prim.Native.Nat.{ℕ, ◌+◌, ◌-◌, ◌*◌, ◌<◌, ◌≤◌}
 use native.Mathlib.Decide.{ℕ_discrete, dec_lt}
 use native.Mathlib.Omega.{arith}
 use borrow.Author.Tests.{eq-eqb, ne_eqb, eqb-true, eqb-false}
@@ -11,18 +11,17 @@ use lib.Dec.{eqb}
 use lib.ListN.{length, get_or, take}
 use Rattle.fixed.proofs.Bools.{and_left, and_right}
 use Rattle.vertex.specs.Kinds.{kind_of}
-use Rattle.vertex.specs.Pages.{holder, joiner, corner, kind_at, carried, Within}
+use Rattle.vertex.specs.Pages.{holder, joiner, kind_at, carried, Within}
 use Rattle.vertex.specs.declared.Junction.{Junction}
 use Rattle.vertex.specs.declared.VertexKind.TheVariants.{WireEnd}
-use Rattle.wire.specs.Ends.{CORNER, LINE, end_x_at, end_y_at, end_vertex, end_kind, stands, junction_end, nearest_end}
+use Rattle.wire.specs.Ends.{CORNER, LINE, end_x_at, end_y_at, end_vertex, end_kind, stands, junction_end}
 use Rattle.wire.specs.Lines.{Line}
 use Rattle.wire.specs.Wires.{Vertices, Ends, Wires, wires, push_vertices, push_fallback, line_vertices, line_ends, fallback_vertices}
-use Rattle.routing.specs.Branches.{Tried, tried, fits, line_wire, fallback_wire, route_wire, joined_end, route_branch, put_junction, join_branch, Limited}
+use Rattle.routing.specs.Branches.{tried, fits, line_wire, fallback_wire, route_wire, joined_end, route_branch, put_junction, join_branch, Limited}
 use Rattle.routing.proofs.Limits.{limited}
 use Rattle.routing.proofs.Joins.{joined_in}
 use Rattle.routing.proofs.Tries.{fits-vertices, fits-ends}
-use Rattle.net_laws.specs.Choices.{FirstAt}
-use Rattle.net_laws.specs.Laid.{In, Kept, Laid, Offered, Before, Long, Drawn, Wire, Leads, Reaches}
+use Rattle.net_laws.specs.Laid.{In, Laid, Offered, Long, Drawn, Wire, Leads, Reaches}
 use Rattle.net_laws.specs.Good.{Good, Net, Row}
 use Rattle.net_laws.proofs.Choices.{junction-first}
 use Rattle.net_laws.proofs.Pages.{kept_on, kept_same, wired-on}

@@ -1,14 +1,14 @@
 -- One end more: it names a vertex of the wire, and stands at a spot of it.
-use mathlib.Core.Path.{◌≡◌, refl, sym, ap, ◌∙◌}
+use mathlib.Core.Path.{◌≡◌, refl, ◌∙◌}
 use mathlib.Core.List.{List}
 use mathlib.Core.Logic.{◌⊎◌, inl, inr}
-use Prim.Native.Nat.{ℕ, zero, suc, ◌+◌, ◌-◌, ◌*◌, ◌<◌, ◌≤◌}
+use Prim.Native.Nat.{ℕ, ◌+◌, ◌*◌, ◌<◌, ◌≤◌}
 use native.Mathlib.Decide.{ℕ_discrete}
 use native.Mathlib.Omega.{arith}
 use lib.ListN.{length, get_or, set, length-set}
 use lib.Seq.{get_or-set_same, get_or-set_other}
 use Rattle.wire.specs.Ends.{CORNER, LINE, end_x_at, end_y_at, end_vertex, end_kind, put_end}
-use Rattle.wire.specs.Wires.{Ends, ends, push_end}
+use Rattle.wire.specs.Wires.{Ends, push_end}
 use Rattle.net_laws.specs.Laid.{Offered, Before}
 
 -- ---- a row written

@@ -2,7 +2,7 @@
 use mathlib.Core.Path.{◌≡◌, refl, sym, ap, ◌∙◌}
 use mathlib.Core.Bool.{Bool, true, false}
 use mathlib.Core.List.{List}
-use Prim.Native.Nat.{ℕ, zero, suc, ◌+◌, ◌-◌, ◌<◌, ◌≤◌}
+use Prim.Native.Nat.{ℕ, suc, ◌+◌, ◌-◌, ◌<◌, ◌≤◌}
 use native.Mathlib.Decide.{ℕ_discrete, dec_lt}
 use native.Mathlib.Omega.{arith}
 use lib.ListN.{length, get_or, set, length-set}
@@ -11,10 +11,10 @@ use Rattle.vertex.specs.Kinds.{letter_of, kind_of, start, end}
 use Rattle.vertex.specs.Pages.{kind_at, Wired, Within}
 use Rattle.vertex.specs.declared.Junction.{Junction}
 use Rattle.vertex.specs.declared.VertexKind.{VertexKind}
-use Rattle.vertex.specs.declared.VertexKind.TheVariants.{WireStart, Dummy, Normal, WireEnd}
+use Rattle.vertex.specs.declared.VertexKind.TheVariants.{WireStart, WireEnd}
 use Rattle.vertex.proofs.Letters.{kind-letter}
-use Rattle.wire.specs.Wires.{Vertices, push_vertex, Room}
-use Rattle.net_laws.specs.Laid.{In, Kept, Begun, Laid, Roomy}
+use Rattle.wire.specs.Wires.{Vertices, push_vertex}
+use Rattle.net_laws.specs.Laid.{Kept, Begun, Laid, Roomy}
 
 -- ---- lists with one entry more
 

@@ -1,5 +1,5 @@
 -- 01, 'Nets': one wire more on a page, and the ends that it offers.
-use Rattle.std.specs.Prelude.{◌≡◌, true, false, List, ◌⊎◌, ℕ, ◌+◌, ◌-◌, ◌*◌, ◌<◌, ◌≤◌, length, get_or}
+use Rattle.std.specs.Prelude.{◌≡◌, true, false, ◌⊎◌, ℕ, ◌+◌, ◌-◌, ◌*◌, ◌<◌, ◌≤◌, length, get_or}
 use Rattle.vertex.specs.Kinds.{start, end}
 use Rattle.vertex.specs.Pages.{kind_at, Within}
 use Rattle.vertex.specs.declared.Junction.{Junction}

@@ -3,13 +3,13 @@
 --     put-stand, put-aim, put-mark     a store to the list is one to the node
 use mathlib.Core.Path.{◌≡◌, refl, sym, ◌∙◌}
 use mathlib.Core.List.{List}
-use Prim.Native.Nat.{ℕ, ◌+◌, ◌-◌, ◌*◌, ◌/◌, ◌%◌, ◌<◌, ◌≤◌}
+use Prim.Native.Nat.{ℕ, ◌+◌, ◌*◌, ◌<◌, ◌≤◌}
 use native.Mathlib.Omega.{arith}
 use lib.IntN.{ℤ}
 use lib.ListN.{length, get_or, set, length-set}
 use Rattle.fixed.specs.Up.{ups}
 use Rattle.fixed.proofs.Lists.{length-ups}
-use Rattle.fixed.specs.Columns.{pick, cell}
+use Rattle.fixed.specs.Columns.{cell}
 use Rattle.fixed.proofs.Columns.{length-pick, pick_at, before, beyond, own}
 use Rattle.nodes.specs.Graph.{Graph, NODES, LINKS, none, X, Y, onward, opposite, stand, aim, mark_as, bare, linked, link}
 use Rattle.nodes.specs.Columns.{GRAPH_WORDS, whole}

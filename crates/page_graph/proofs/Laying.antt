@@ -16,7 +16,7 @@ use Rattle.corridors.specs.Answer as Corridors
 use Rattle.corridors.specs.Answer.{number}
 use Rattle.corridors.specs.Merge.{Anchors, directions}
 use Rattle.nodes.specs.Graph.{none}
-use Rattle.anchors.specs.Explicit.{Columns, columns}
+use Rattle.anchors.specs.Explicit.{columns}
 use Rattle.page_graph.specs.Page.{then_implicit}
 use Rattle.page_graph.specs.Lent.{EXPLICIT, Before}
 use Rattle.page_graph.proofs.Parts.{before-column}

@@ -7,7 +7,6 @@ use mathlib.Core.Path.{◌≡◌, refl, sym, ap, ◌∙◌}
 use mathlib.Core.Bool.{Bool, true, false}
 use mathlib.Core.List.{List, [], ◌∷◌, ◌++◌, append_assoc, append-nil}
 use Prim.Native.Nat.{ℕ, zero, suc, ◌+◌, ◌-◌, ◌*◌, ◌<◌, ◌≤◌}
-use native.Mathlib.Numerals.{add-one}
 use native.Mathlib.Omega.{arith}
 use lib.IntN.{ℤ}
 use lib.ListN.{length, get_or, take, set, replicate, replicate-append-replicate, get_or-append, length-append}
@@ -16,7 +15,7 @@ use Rattle.fixed.specs.Constants.{PADDING, LEAST, GREATEST, BOXES}
 use Rattle.fixed.specs.Up.{up, ups}
 use Rattle.fixed.specs.Columns.{column}
 use Rattle.fixed.proofs.Lists.{length-ups, ups-take}
-use Rattle.fixed.proofs.Columns.{length-column, column-at, column-none, column-more, column-same, beyond}
+use Rattle.fixed.proofs.Columns.{length-column, column-at, column-more, column-same, beyond}
 use Rattle.axis.proofs.Small.{Same, yes, no, same?}
 use Rattle.sightline.specs.Boxes.{padded, edges, Fields}
 use Rattle.sightline.proofs.Padding.{length-edges}

@@ -1,5 +1,5 @@
 -- What `build` asks of a page's records and of the lent lists, and what it leaves in them.
-use Rattle.std.specs.Prelude.{◌≡◌, Bool, false, List, ℕ, ◌+◌, ◌*◌, ◌<◌, ◌≤◌, ℤ, length, get_or}
+use Rattle.std.specs.Prelude.{◌≡◌, Bool, false, List, ℕ, ◌<◌, ◌≤◌, ℤ, length, get_or}
 use Rattle.fixed.specs.Constants.{BOXES, COORDS, PADDED_WORDS, ANCHOR_WORDS}
 use Rattle.fixed.specs.Up.{ups}
 use Rattle.sightline.specs.Boxes.{Fields}

@@ -7,26 +7,25 @@ use Prim.Native.Nat.{ℕ, zero, suc, ◌+◌, ◌-◌, ◌*◌, ◌<◌, ◌≤�
 use native.Mathlib.Decide.{ℕ_discrete}
 use native.Mathlib.Nat.{le_refl}
 use native.Mathlib.Omega.{arith}
-use borrow.Author.Tests.{eq-eqb, ne_eqb, eqb-true, eqb-false}
+use borrow.Author.Tests.{eq-eqb, eqb-true, eqb-false}
 use lib.Dec.{eqb}
 use lib.ListN.{length, get_or, replicate, length-replicate}
 use Rattle.fixed.proofs.Bools.{and_both}
 use Rattle.nodes.specs.Chains.{Place}
 use Rattle.nodes.specs.Graph.{Graph}
 use Rattle.path_finding.specs.Line.{table}
-use Rattle.path_finding.specs.Places.{known}
 use Rattle.path_finding.proofs.Lines.{table-length, table_at}
 use Rattle.vertex.specs.declared.Junction.TheVariants.{None}
 use Rattle.wire.specs.Ends.{end_x_at, end_y_at, stands}
 use Rattle.wire.specs.Lines.{Line}
-use Rattle.wire.specs.Wires.{Vertices, Ends, Wires, wires}
-use Rattle.routing.specs.Branches.{Tried, route_wire, route_branch, join_branch}
+use Rattle.wire.specs.Wires.{Vertices, Ends, wires}
+use Rattle.routing.specs.Branches.{route_wire, route_branch}
 use Rattle.net.specs.Nets.{found_line, along, root_wire, Branched, branched, end_word, branch_line, branch_from, branch_at, branches_to, END_WORDS, no_ends}
-use Rattle.net_laws.specs.Laid.{In, Long, Drawn, Leads, Reaches}
+use Rattle.net_laws.specs.Laid.{In, Drawn, Leads, Reaches}
 use Rattle.net_laws.specs.Good.{Net}
 use Rattle.net_laws.proofs.Nets.{net-begin, wire-laid, wire-some, wire-net, branch-laid, branch-some, branch-net}
 use Rattle.page_laws.specs.Connected.{Ground, Page, Touched}
-use Rattle.page_laws.proofs.Found.{Ending, known-place, found-drawn, found_right}
+use Rattle.page_laws.proofs.Found.{Ending, found-drawn, found_right}
 use Rattle.page_laws.proofs.Others.{others, others-up}
 use Rattle.page_laws.proofs.Touching.{touched-on, touched-start, touched-end}
 

@@ -1,7 +1,7 @@
 -- The claims are not empty: a closed page and graph of them, and a net on it.
 use mathlib.Core.Path.{◌≡◌, refl}
 use mathlib.Core.Bool.{true}
-use mathlib.Core.List.{List, [], ◌∷◌}
+use mathlib.Core.List.{[], ◌∷◌}
 use Prim.Native.Nat.{ℕ, zero, suc, ◌<◌, ◌≤◌}
 use native.Mathlib.Nat.{le_refl}
 use native.Mathlib.Omega.{arith}
@@ -10,7 +10,7 @@ use Rattle.fixed.specs.Up.{BIAS}
 use Rattle.sightline.specs.Count.{any, run}
 use Rattle.sightline.specs.Sight.{stops, box_stops, blocked, clear_after, clear_before}
 use Rattle.axis.specs.Axis.{rank, index, holds, insert, inserts}
-use Rattle.nodes.specs.Graph.{NODES, stands, seek, find, mark_as, remark, push, place, linked, link}
+use Rattle.nodes.specs.Graph.{stands, seek, find, mark_as, remark, push, place, linked, link}
 use Rattle.scan.specs.Walk.{along, find_on, place_on, next, step, walk, reach, scan}
 use Rattle.scan.specs.Scan.{fold, has, toward, scans, scan_anchor, mark, place_anchor, scan_at, build_nodes, build}
 use Rattle.graph.specs.Build.{whole}

@@ -1,8 +1,8 @@
 -- A net leaves a good page, refused or not, and at 0 each of its endpoints is touched.
 use mathlib.Core.Path.{◌≡◌, refl, sym, ap, ◌∙◌}
 use mathlib.Core.Bool.{Bool, true, false, cond}
-use mathlib.Core.List.{List, [], ◌∷◌, ◌++◌}
-use Prim.Native.Nat.{ℕ, zero, suc, ◌+◌, ◌-◌, ◌*◌, ◌/◌, ◌%◌, ◌<◌, ◌≤◌}
+use mathlib.Core.List.{List}
+use Prim.Native.Nat.{ℕ, ◌+◌, ◌-◌, ◌*◌, ◌<◌, ◌≤◌}
 use native.Mathlib.Omega.{arith}
 use borrow.Author.Tests.{eqb-true, eqb-false, ltb-false}
 use lib.Dec.{eqb, ltb}
@@ -14,16 +14,14 @@ use Rattle.nodes.specs.Graph.{Graph}
 use Rattle.zeros.specs.Zeros.{closed}
 use Rattle.path_finding.specs.Places.{known}
 use Rattle.vertex.specs.Kinds.{kind_of, start, end}
-use Rattle.vertex.specs.Pages.{holder, joiner, kind_at, Joined, Wired, Ended, Within}
+use Rattle.vertex.specs.Pages.{joiner, kind_at, Wired, Within}
 use Rattle.wire.specs.Wires.{Vertices, vertices, wires}
-use Rattle.routing.specs.Branches.{Tried}
-use Rattle.routing.specs.Roots.{root_pair}
-use Rattle.net.specs.Nets.{root_from, root_to, root_wire, Branched, branched, branches_to, Net, net, refused, no_ends, route_net, kept, connect_net}
-use Rattle.net_laws.specs.Laid.{Kept, Roomy}
+use Rattle.net.specs.Nets.{root_from, root_to, root_wire, Branched, branched, net, refused, no_ends, route_net, kept, connect_net}
+use Rattle.net_laws.specs.Laid.{Kept}
 use Rattle.net_laws.specs.Good.{Good}
 use Rattle.net_laws.proofs.Roots.{root}
 use Rattle.net_laws.proofs.Rows.{rows_of}
-use Rattle.page_laws.specs.Connected.{Ground, Page, Touched, Connected}
+use Rattle.page_laws.specs.Connected.{Ground, Page, Connected}
 use Rattle.page_laws.proofs.Found.{known-place}
 use Rattle.page_laws.proofs.Others.{others-two}
 use Rattle.page_laws.proofs.Branches.{Sofar, root-sofar, all-sofar}

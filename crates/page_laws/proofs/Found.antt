@@ -1,28 +1,27 @@
 -- The line that a search between nodes gives is drawn on the graph's nodes, and leads from the start to one of the ends.
 use mathlib.Core.Path.{◌≡◌, refl, sym, ap, ◌∙◌}
 use mathlib.Core.Bool.{Bool, true, false, cond}
-use mathlib.Core.List.{List, [], ◌∷◌}
-use Prim.Native.Nat.{ℕ, zero, suc, ◌+◌, ◌-◌, ◌<◌, ◌≤◌}
+use mathlib.Core.List.{List, []}
+use Prim.Native.Nat.{ℕ, zero, suc, ◌-◌, ◌<◌}
 use native.Mathlib.Decide.{ℕ_discrete}
 use native.Mathlib.Omega.{arith}
-use borrow.Author.Tests.{lt-ltb, ltb-true, eq-eqb}
-use lib.Dec.{ltb, eqb}
+use borrow.Author.Tests.{lt-ltb, ltb-true}
+use lib.Dec.{ltb}
 use lib.ListN.{length, get_or}
 use Rattle.fixed.proofs.Bools.{and_left, and_right}
 use Rattle.nodes.specs.Chains.{Place}
 use Rattle.nodes.specs.Graph.{Graph, seek, find}
-use Rattle.nodes.specs.Wf.{At}
-use Rattle.nodes.proofs.Sound.{found, found-there}
+use Rattle.nodes.proofs.Sound.{found}
 use Rattle.astar.specs.Reached.{Ready, Below}
 use Rattle.path_finding.specs.Claims.{Way, arrived, step, Led}
-use Rattle.path_finding.specs.Line.{NORMAL, END, line, table, place_at, kind_at}
+use Rattle.path_finding.specs.Line.{NORMAL, line, table, place_at, kind_at}
 use Rattle.path_finding.specs.Places.{node_at, known, start_of, ends_of, ends_known, line_between}
 use Rattle.path_finding.proofs.Lines.{table-length, table_at, is-line-below}
 use Rattle.path_finding.proofs.Laws.{kind-end}
 use Rattle.path_finding.proofs.Theorems.{right}
 use Rattle.wire.specs.Lines.{Line, line_of}
 use Rattle.net.specs.Nets.{found_line}
-use Rattle.net_laws.specs.Laid.{Drawn, Leads, Reaches}
+use Rattle.net_laws.specs.Laid.{Drawn}
 
 -- ---- the first and the last node of a way
 

@@ -1,15 +1,14 @@
 -- All nets of a page, one after another.
-use mathlib.Core.Path.{◌≡◌, refl, sym, ap, ◌∙◌}
+use mathlib.Core.Path.{◌≡◌}
 use mathlib.Core.List.{List}
 use Prim.Native.Nat.{ℕ, zero, suc, ◌+◌, ◌*◌, ◌<◌, ◌≤◌}
 use native.Mathlib.Decide.{ℕ_discrete}
 use native.Mathlib.Omega.{arith}
-use lib.ListN.{length, get_or}
 use Rattle.nodes.specs.Graph.{Graph}
 use Rattle.vertex.specs.Pages.{holder, joiner}
 use Rattle.wire.specs.Wires.{Vertices}
-use Rattle.net.specs.Nets.{Net, connect_net}
-use Rattle.page_laws.specs.Connected.{Ground, Page, Touched, Connected}
+use Rattle.net.specs.Nets.{Net}
+use Rattle.page_laws.specs.Connected.{Ground, Page, Connected}
 use Rattle.page_laws.specs.Nets.{nets_to, Stands, Routed}
 use Rattle.page_laws.proofs.Connect.{connect}
 use Rattle.page_laws.proofs.Touching.{touched-kept}

@@ -1,15 +1,15 @@
 -- A page is what separation asks for, and after it every endpoint that was touched still is.
-use mathlib.Core.Path.{◌≡◌, refl, sym, ap, ◌∙◌}
+use mathlib.Core.Path.{◌≡◌, sym, ap, ◌∙◌}
 use mathlib.Core.List.{List}
-use Prim.Native.Nat.{ℕ, ◌+◌, ◌-◌, ◌*◌, ◌<◌, ◌≤◌}
+use Prim.Native.Nat.{ℕ, ◌*◌, ◌<◌, ◌≤◌}
 use native.Mathlib.Omega.{arith}
 use lib.ListN.{length, get_or, take}
 use lib.Seq.{length-take-le, get_or-take}
 use Rattle.vertex.specs.Kinds.{kind_of}
-use Rattle.vertex.specs.Pages.{kind_at, Within}
-use Rattle.fixup.specs.Moves.{Places, places, LOWEST, HIGHEST}
+use Rattle.vertex.specs.Pages.{Within}
+use Rattle.fixup.specs.Moves.{LOWEST, HIGHEST}
 use Rattle.fixup.specs.Separation.{separate_wires}
-use Rattle.fixup.specs.Promises.{REACH, Bounded, still, Still, Parted}
+use Rattle.fixup.specs.Promises.{Bounded, still, Still, Parted}
 use Rattle.fixup.proofs.Promises.{separate-bounded, separate-still, separate-parted}
 use Rattle.wire.specs.Wires.{Vertices}
 use Rattle.page_laws.specs.Connected.{Page, Touched}

@@ -1,5 +1,5 @@
 -- The claims, by the laws of the other files.
-use Rattle.page_laws.specs.Claims.{ConnectNet, AllNets, PageSeparable, Promised, SeparatePage, EndpointStays}
+use Rattle.page_laws.specs.Claims.{ConnectNet, AllNets, PageSeparable, SeparatePage, EndpointStays}
 use Rattle.page_laws.proofs.Connect.{connect}
 use Rattle.page_laws.proofs.Nets.{routed}
 use Rattle.page_laws.proofs.Separate.{page-separable, page-bounded, page-still, page-parted, endpoint-stays}

@@ -1,15 +1,13 @@
 -- Vertices that stay, at the places of endpoints: they are kept while wires are added, and each wire has one at its start.
-use mathlib.Core.Path.{◌≡◌, refl, sym, ap, ◌∙◌}
-use mathlib.Core.Bool.{Bool, true, false, ◌||◌}
-use Prim.Native.Nat.{ℕ, ◌+◌, ◌-◌, ◌<◌, ◌≤◌}
+use mathlib.Core.Path.{◌≡◌, ap, ◌∙◌}
+use mathlib.Core.Bool.{true}
+use Prim.Native.Nat.{ℕ, ◌-◌, ◌<◌, ◌≤◌}
 use native.Mathlib.Omega.{arith}
-use lib.ListN.{get_or}
 use Rattle.vertex.specs.Kinds.{kind_of, start}
 use Rattle.vertex.specs.Pages.{kind_at}
 use Rattle.vertex.specs.declared.Junction.{Junction}
 use Rattle.vertex.specs.declared.Junction.TheVariants.{None}
 use Rattle.vertex.specs.declared.VertexKind.{VertexKind}
-use Rattle.tracks.specs.Movement.{no_junction}
 use Rattle.fixup.specs.Promises.{still}
 use Rattle.wire.specs.Wires.{Vertices}
 use Rattle.net_laws.specs.Laid.{Kept, Laid}

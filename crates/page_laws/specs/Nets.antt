@@ -1,5 +1,5 @@
 -- 01, 'Nets': the nets of a page, one after another on what the earlier ones left. The net k has the endpoints px k, py k.
-use Rattle.std.specs.Prelude.{◌≡◌, List, ℕ, zero, suc, ◌-◌, ◌<◌, ◌≤◌, length, get_or}
+use Rattle.std.specs.Prelude.{◌≡◌, List, ℕ, zero, suc, ◌<◌, ◌≤◌, length, get_or}
 use Rattle.nodes.specs.Graph.{Graph}
 use Rattle.vertex.specs.Pages.{holder, joiner}
 use Rattle.wire.specs.Wires.{Vertices}

@@ -1,5 +1,5 @@
 -- 01's sample, and the empty text, by computing.
-use mathlib.Core.Path.{◌≡◌, refl}
+use mathlib.Core.Path.{refl}
 use Rattle.fixed.specs.Track as FixedTrack
 use Rattle.fixed.specs.Up as FixedUp
 use Rattle.sightline.specs.Boxes as SightlineBoxes

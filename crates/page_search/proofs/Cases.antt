@@ -1,30 +1,28 @@
 -- The marked case of the search as records, by computing; `PageLineExists` is not empty, and there it decides both ways.
-use mathlib.Core.Path.{◌≡◌, refl, sym, ap, ◌∙◌}
-use mathlib.Core.Bool.{Bool, true, false, ◌||◌}
+use mathlib.Core.Path.{◌≡◌, refl}
+use mathlib.Core.Bool.{Bool, true, false}
 use mathlib.Core.List.{List, [], ◌∷◌}
 use Prim.Native.Nat.{ℕ, zero, suc, ◌+◌, ◌*◌, ◌<◌, ◌≤◌}
 use native.Mathlib.Omega.{arith}
 use lib.ListN.{length, get_or}
-use Rattle.fixed.specs.Constants.{LEAST, GREATEST}
 use Rattle.sightline.specs.Boxes.{padded, edges as padded-edges, Fields}
 use Rattle.axis.specs.Axis.{rank, index, holds, insert, inserts}
 use Rattle.corridors.specs.Grid.{covers, covered, filled, last, ends_at, add_cell, with_cell, runs, row_runs, all_runs}
 use Rattle.corridors.specs.Merge as Implicit
 use Rattle.corridors.specs.Merge.{has, swap_remove, take_out, yield, corridor, row_corridors, corridors, crossed, directions}
 use Rattle.astar.specs.Reached.{LIMIT}
-use Rattle.scan.specs.Scan.{Anchors}
-use Rattle.anchors.specs.Records.{BOX, ROW, Records}
+use Rattle.anchors.specs.Records.{BOX, ROW}
 use Rattle.anchors.specs.Explicit.{push, takes, ways, ignored, with_row, with_key, with_keys, port_anchors, explicit}
-use Rattle.graph.specs.Build.{Boxes, whole, made}
+use Rattle.graph.specs.Build.{made}
 use Rattle.graph.specs.Cases.{at, one_box, ports}
 use Rattle.line_exists.proofs.Cases as Lines
 use Rattle.page_graph.specs.Cases.{one_box as three-ports}
 use Rattle.page_graph.proofs.Cases as Pages
 use Rattle.page_graph.specs.Lent.{EXPLICIT}
-use Rattle.page_graph.specs.Page.{padded_boxes, implicit, then_implicit, all_anchors, overfull, boxes_of_page, anchors_of_page, crowded, graph_of_page}
+use Rattle.page_graph.specs.Page.{padded_boxes, implicit, then_implicit, all_anchors, boxes_of_page, anchors_of_page, crowded, graph_of_page}
 use Rattle.page_search.specs.Page.{search_number}
-use Rattle.page_search.specs.Exists.{Keyed, Sound, Owned, RowAt, Holds, port, Asked, Decided}
-use Rattle.page_search.specs.Cases.{AskedTo, Cases}
+use Rattle.page_search.specs.Exists.{Keyed, Sound, Owned, Holds, port, Asked}
+use Rattle.page_search.specs.Cases.{Cases}
 use Rattle.page_search.proofs.Theorem.{page-line-exists}
 
 -- ---- its boxes and anchors are those of the marked case of the graph

@@ -1,7 +1,7 @@
 -- The explicit anchors of a page's records: each port whose box is there and each unported end whose net is there has one.
-use mathlib.Core.Path.{◌≡◌, refl, sym, ap, ◌∙◌}
-use mathlib.Core.Bool.{Bool, true, false, cond, not, ◌&&◌, ◌||◌}
-use mathlib.Core.List.{List, [], ◌∷◌, ◌++◌}
+use mathlib.Core.Path.{◌≡◌, refl, sym, ◌∙◌}
+use mathlib.Core.Bool.{Bool, true, false, not, ◌||◌}
+use mathlib.Core.List.{List, [], ◌∷◌}
 use Prim.Native.Nat.{ℕ, zero, suc, ◌+◌, ◌*◌, ◌<◌, ◌≤◌}
 use native.Mathlib.Decide.{ℕ_discrete}
 use native.Mathlib.Omega.{arith}
@@ -10,9 +10,9 @@ use lib.Dec.{eqb}
 use lib.ListN.{length, get_or, length-append, get_or-append}
 use lib.Seq.{get_or_at}
 use Rattle.anchors.specs.Records.{BOX, ROW, NET, Records}
-use Rattle.anchors.specs.Explicit.{Columns, empty, push, takes, ways, ignored, with_row, with_key, with_keys, port_anchors, explicit}
+use Rattle.anchors.specs.Explicit.{Columns, empty, push, takes, ignored, with_row, with_key, with_keys, port_anchors, explicit}
 use Rattle.page_graph.proofs.Explicits.{Kept, Even, push-even, row_keeps, key-keeps, keys-keep}
-use Rattle.page_search.specs.Exists.{Keyed, Owned, RowAt, Holds, port, unported}
+use Rattle.page_search.specs.Exists.{Keyed, Owned, Holds, port, unported}
 
 -- an anchor is at (x, y)
 pub record Stands (c : Columns) (x y : ℕ) : Type 0 where

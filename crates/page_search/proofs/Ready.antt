@@ -1,12 +1,11 @@
 -- A page's anchors have coordinates of 32 bits, so that its graph can be searched.
-use mathlib.Core.Path.{◌≡◌, refl, sym, ◌∙◌}
-use mathlib.Core.Bool.{Bool, true, false}
-use mathlib.Core.List.{List, [], ◌∷◌, ◌++◌}
-use Prim.Native.Nat.{ℕ, ◌+◌, ◌*◌, ◌<◌, ◌≤◌}
+use mathlib.Core.Path.{◌≡◌}
+use mathlib.Core.Bool.{Bool, false}
+use mathlib.Core.List.{List}
+use Prim.Native.Nat.{ℕ, ◌+◌, ◌*◌, ◌<◌}
 use native.Mathlib.Omega.{arith}
 use native.Mathlib.Nat.{not-suc-le-zero}
-use lib.ListN.{length, get_or, length-append}
-use Rattle.corridors.specs.Rules.{Placed}
+use lib.ListN.{get_or, length-append}
 use Rattle.astar.specs.Reached.{LIMIT, Ready}
 use Rattle.anchors.specs.Records.{ROW, Records}
 use Rattle.anchors.specs.Explicit.{Columns, push, explicit}

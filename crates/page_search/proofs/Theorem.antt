@@ -1,9 +1,8 @@
 -- A search on a page finds a line exactly if there is one.
 use mathlib.Core.Path.{◌≡◌, refl, sym, ◌∙◌}
-use mathlib.Core.Bool.{Bool, true, false, cond}
+use mathlib.Core.Bool.{Bool, true, false}
 use mathlib.Core.List.{List}
-use Prim.Native.Nat.{ℕ, ◌+◌, ◌<◌, ◌≤◌}
-use lib.ListN.{length, get_or}
+use Prim.Native.Nat.{ℕ}
 use Rattle.anchors.specs.Records.{Records}
 use Rattle.graph.specs.Build.{whole, made}
 use Rattle.path_finding.specs.Places.{number}
@@ -11,10 +10,10 @@ use Rattle.search.proofs.Theorem.{searches}
 use Rattle.line_exists.specs.Exists.{Named, Joined}
 use Rattle.line_exists.specs.Exists as Lines
 use Rattle.line_exists.proofs.Theorem.{line-exists}
-use Rattle.page_graph.specs.Page.{boxes_of_page, anchors_of_page, crowded, graph_of_page}
+use Rattle.page_graph.specs.Page.{boxes_of_page, anchors_of_page, graph_of_page}
 use Rattle.page_graph.proofs.Theorem.{page-few, anchor-in, anchor-explicit, anchor-x, anchor-y}
 use Rattle.page_search.specs.Page.{search_number, search_line}
-use Rattle.page_search.specs.Exists.{Sound, Holds, Asked, Decided, PageTold, PageSearches, PageLineExists}
+use Rattle.page_search.specs.Exists.{Sound, Holds, Asked, Decided, PageSearches, PageLineExists}
 use Rattle.page_search.proofs.Explicits.{explicit-stands}
 use Rattle.page_search.proofs.Ready.{x_low, y_low, page-ready}
 

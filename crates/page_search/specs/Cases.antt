@@ -1,6 +1,6 @@
 -- 01, 'Cases at the edges': *'one box with ports (0,0) PosX, (20,0) NegX, (10,40) no direction, the box at the point (1000,1000)', as records: first to third port is
 -- 11. Beside it: first to second port is found. Both are cases of `PageLineExists`: what it asks is so, and by it the places are joined, or not.
-use Rattle.std.specs.Prelude.{◌≡◌, Bool, true, false, List, [], ◌∷◌, ℕ}
+use Rattle.std.specs.Prelude.{◌≡◌, Bool, true, false, [], ◌∷◌, ℕ}
 use Rattle.graph.specs.Cases.{at}
 use Rattle.line_exists.specs.Exists.{Joined}
 use Rattle.page_graph.specs.Cases.{one_box}

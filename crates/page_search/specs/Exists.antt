@@ -1,6 +1,6 @@
 -- 01, demand 3, second half, of a page's records: between places that hold a port or an unported end, a search finds a line exactly if in the unpruned graph of
 -- the page links join the start to an end that has a link, pruned or not; otherwise it answers 11.
-use Rattle.std.specs.Prelude.{◌≡◌, Bool, true, false, List, [], ◌⊎◌, ℕ, ◌+◌, ◌*◌, ◌<◌, ◌≤◌, length, get_or}
+use Rattle.std.specs.Prelude.{◌≡◌, Bool, true, false, List, [], ℕ, ◌+◌, ◌*◌, ◌<◌, length, get_or}
 use Rattle.astar.specs.Reached.{LIMIT}
 use Rattle.anchors.specs.Records.{BOX, ROW, NET, Records}
 use Rattle.path_finding.specs.Places.{number, line_between}

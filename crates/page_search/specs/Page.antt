@@ -1,6 +1,5 @@
 -- 01, 'Search' and 'Numbers handed back' 0, 8, 9, 10, 11: a search on a page, from its records.
 use Rattle.std.specs.Prelude.{◌≡◌, Bool, cond, List, [], ℕ, length}
-use Rattle.nodes.specs.Graph.{Graph}
 use Rattle.anchors.specs.Records.{Records}
 use Rattle.path_finding.specs.Line.{Written}
 use Rattle.path_finding.specs.Places.{number, line_between}

@@ -2,7 +2,7 @@
 use mathlib.Core.Path.{◌≡◌, refl, sym, ap, ◌∙◌}
 use mathlib.Core.List.{List, [], ◌∷◌, ◌++◌, map, append_assoc, append-nil}
 use mathlib.Core.Bool.{Bool, true, ◌&&◌}
-use Prim.Native.Nat.{ℕ, zero, suc, ◌≤◌, ◌<◌}
+use Prim.Native.Nat.{ℕ, zero, suc, ◌<◌}
 use native.Mathlib.Omega.{arith}
 use lib.ListN.{length, get_or}
 use lib.Dec.{leb}
@@ -14,7 +14,7 @@ use Rattle.decimals.specs.Decimal.{BASE, is_empty}
 use Rattle.rows.specs.Rows.{key}
 use Rattle.book.specs.declared.Kind.{Kind}
 use Rattle.book.specs.Sizes.{IDS}
-use Rattle.book.specs.Book.{Record, Lists, width, ok_id_in, ok_id, ok_place, field, ok_fields, fields_number, ok_record, add_number, take_number_in, with_record, Item, items, in_order}
+use Rattle.book.specs.Book.{Record, Lists, width, ok_id_in, ok_id, ok_place, field, ok_fields, fields_number, ok_record, add_number, take_number_in, Item, items, in_order}
 use Rattle.book.proofs.Fields.{record-long, record-ranged, record-0, answer-n}
 use Rattle.book.proofs.Builds.{Builds, none, one, builds}
 use Rattle.page_line.specs.Records.{Line, entry}

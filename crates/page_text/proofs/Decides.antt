@@ -8,14 +8,14 @@ use lib.ListN.{length, take, drop, length-take}
 use lib.Seq.{take_all, take-take, length-take-le}
 use lib.Dec.{eqb, ltb}
 use borrow.Author.Tests.{ne_eqb, ltb-true, ltb-false}
-use Rattle.decimals.specs.Bytes.{LF, split, place}
+use Rattle.decimals.specs.Bytes.{LF, place}
 use Rattle.decimals.proofs.Split.{place-le}
 use Rattle.rows.proofs.Rows.{take-drop}
 use Rattle.book.specs.declared.Kind.{Kind}
 use Rattle.book.specs.Book.{Lists, no_lists, ok_lists}
 use Rattle.book.proofs.Keeps.{boxes-ok, nets-ok, ports-ok, ends-ok, owners-few, members-few}
-use Rattle.page_line.specs.Records.{Line, malformed}
-use Rattle.page_line.specs.Lines.{LINE, ended, line_at, text_lines_in, text_lines}
+use Rattle.page_line.specs.Records.{malformed}
+use Rattle.page_line.specs.Lines.{LINE, line_at, text_lines_in, text_lines}
 use Rattle.page_line.proofs.Lines.{at_none, at_long, line_first}
 use Rattle.page_text.specs.Reading.{takes_in, takes, adds, refused, onward, feed_in, feed, read_in}
 use Rattle.page_text.specs.Law.{TEXT, Decides}

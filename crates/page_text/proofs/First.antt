@@ -8,7 +8,7 @@ use lib.ListN.{length}
 use Rattle.book.specs.Book.{Lists, no_lists}
 use Rattle.page_line.specs.Records.{Line}
 use Rattle.page_line.specs.Lines.{text_lines}
-use Rattle.page_text.specs.Reading.{takes, adds, Reading, accepted, refused, onward, feed_in, feed, read_in}
+use Rattle.page_text.specs.Reading.{takes, adds, accepted, refused, onward, feed_in, feed, read_in}
 use Rattle.page_text.specs.Law.{Goes, none, one, Accepts, Accepted, Refuses, Refused, Numbers}
 use Rattle.page_text.specs.declared.Step.{Step}
 use Rattle.page_text.specs.declared.Step.TheVariants.{Went, Bad}

@@ -1,19 +1,19 @@
 -- One turn of each loop, and each small function, as an equation of the definitions.
 use Prim.Native.Nat.{ℕ, zero, suc, ◌+◌, ◌-◌, ◌*◌, ◌≤◌, ◌<◌}
-use mathlib.Core.Path.{◌≡◌, refl, sym, ap, ◌∙◌}
+use mathlib.Core.Path.{◌≡◌, refl, sym, ◌∙◌}
 use mathlib.Core.List.{List, [], ◌∷◌, ◌++◌}
 use mathlib.Core.Bool.{Bool, true, false, cond, not, ◌&&◌, ◌||◌}
 use native.Mathlib.Numerals.{add-one}
 use native.Mathlib.Omega.{arith}
 use lib.IntN.{ℤ}
-use lib.ListN.{length, get_or, set, take, drop, length-set, length-take, replicate, length-replicate, get_or-replicate}
+use lib.ListN.{length, get_or, set, take, length-take, replicate, get_or-replicate}
 use lib.Seq.{get_or-take, take-suc-set, get_or-set_same, get_or-set_other}
 use lib.Dec.{ltb, eqb}
 use borrow.Author.Tests.{lt-ltb, le-ltb, eq-eqb, ne_eqb}
 use Rattle.fixed.specs.Up.{BIAS, ups}
 use native.Mathlib.Decide.{ℕ_discrete}
 use Rattle.fixed.proofs.Lists.{length-ups}
-use Rattle.nodes.specs.Graph.{Graph, none, seek}
+use Rattle.nodes.specs.Graph.{none, seek}
 use Rattle.nodes.proofs.Nodes.{seek-take, seek-le}
 use Rattle.astar.specs.Reached.{Below}
 use Rattle.columns.specs.Columns.{column, Only}
@@ -25,7 +25,7 @@ use Rattle.astar.specs.Scratch.{SCORE, ESTIMATE, PRED, MARK, scores, estimates, 
 use Rattle.path_finding.specs.Lent.{Blank, Behind}
 use Rattle.astar.specs.Search.{holds, toward}
 use Rattle.path_finding.specs.Places.{node_at, known}
-use Rattle.path_finding.specs.Line.{START, NORMAL, END, has_link, admit, goals, table, place_at, kind_at, bit, direction_at, before, kept_at, pruned}
+use Rattle.path_finding.specs.Line.{START, NORMAL, END, has_link, admit, goals, table, place_at, kind_at, bit, direction_at, kept_at, pruned}
 
 -- ---- a table, entry by entry
 

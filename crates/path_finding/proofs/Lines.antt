@@ -1,15 +1,15 @@
 -- What a search between nodes gives: the ends that count are nodes, and so are the line's nodes; the code's answer is the line.
-use Prim.Native.Nat.{ℕ, zero, suc, ◌+◌, ◌-◌, ◌*◌, ◌≤◌, ◌<◌}
+use Prim.Native.Nat.{ℕ, zero, suc, ◌+◌, ◌-◌, ◌≤◌, ◌<◌}
 use mathlib.Core.Path.{◌≡◌, refl, sym, ap, ◌∙◌, subst}
 use mathlib.Core.List.{List, [], ◌∷◌, ◌++◌, reverse, reverse-cons}
-use mathlib.Core.Bool.{Bool, true, false, cond, not, ◌&&◌, ◌||◌}
+use mathlib.Core.Bool.{Bool, true, false, cond, not, ◌&&◌}
 use native.Mathlib.Omega.{arith}
 use native.Mathlib.Decide.{ℕ_discrete, dec_lt}
 use native.Mathlib.Nat.{le_of_suc-le-suc, not-suc-le-zero}
 use lib.ListN.{length, get_or, take, drop, drop_of_length-le, replicate, length-replicate, get_or-replicate, length-append, get_or-append}
 use lib.Seq.{length-take-le, get_or-append_seam, get_or-append-add, get_or_at, ext_get_or}
-use lib.Dec.{ltb, eqb}
-use borrow.Author.Tests.{eq-eqb, ne_eqb, eqb-true, eqb-false}
+use lib.Dec.{eqb}
+use borrow.Author.Tests.{eq-eqb, ne_eqb, eqb-false}
 use Rattle.fixed.proofs.Bools.{clash}
 use Rattle.axis.proofs.Small.{Place, before, beyond, place}
 use Rattle.zeros.specs.Zeros.{closed}
@@ -20,13 +20,13 @@ use Rattle.astar.specs.Search.{St, chain, holds, search, found_of, traced_line}
 use Rattle.astar.specs.Reached.{Ready, Below}
 use Rattle.columns.specs.Columns.{Only}
 use Rattle.queue.specs.Queue.{UNSET}
-use Rattle.queue.specs.Columns.{WIDTH, sums}
-use Rattle.astar.specs.Scratch.{MARK, scores, estimates, preds, marked, Marked, Held, Back, last, more, Traced}
+use Rattle.queue.specs.Columns.{sums}
+use Rattle.astar.specs.Scratch.{MARK, scores, estimates, preds, marked, Marked, Held, Back, last, more}
 use Rattle.astar.proofs.Laws.{unknown}
 use Rattle.path_finding.specs.Lent.{Blank}
 use Rattle.astar.proofs.Roads.{roads}
-use Rattle.astar.proofs.Line.{found-end, found-traced, line-none, line-traced, line_is}
-use Rattle.path_finding.specs.Line.{has_link, admit, goals, line, table, Written}
+use Rattle.astar.proofs.Line.{found-end, found-traced, line-none, line_is}
+use Rattle.path_finding.specs.Line.{has_link, admit, goals, line, table}
 
 pub below_more : (n : ℕ) (l : List ℕ) (e : ℕ) → Below n l → e < n → Below n (l ++ (e ∷ []))
 below_more n l e b en i h = go (dec_lt i (length l))

@@ -1,6 +1,6 @@
 -- The scratch of a search: the columns of its nodes, a tree over them, and a list of the ends, then of the line. It is lent with any contents.
 use Rattle.std.specs.Prelude.{ℕ, ◌*◌, ◌≤◌, ◌<◌, ◌≡◌, List, length, get_or, replicate}
-use Rattle.queue.specs.Queue.{NODES, UNSET}
+use Rattle.queue.specs.Queue.{UNSET}
 use Rattle.queue.specs.Index.{Indexed}
 use Rattle.queue.specs.Columns.{WIDTH, sums}
 use Rattle.nodes.specs.Graph.{none}

@@ -1,5 +1,5 @@
 -- 01, 'Numbers handed back' 0, 9, 10, 11: a search between places.
-use Rattle.std.specs.Prelude.{ℕ, zero, suc, ◌-◌, ◌≡◌, List, [], Bool, true, false, cond, ◌&&◌, length, get_or, drop, ltb, eqb}
+use Rattle.std.specs.Prelude.{ℕ, zero, suc, ◌-◌, ◌≡◌, List, [], Bool, true, cond, ◌&&◌, length, get_or, drop, ltb, eqb}
 use Rattle.nodes.specs.Graph.{Graph, seek}
 use Rattle.path_finding.specs.Line.{line, table}
 

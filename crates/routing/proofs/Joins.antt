@@ -1,16 +1,14 @@
 -- A junction comes after what it joins: the end that a branch takes names a vertex from before it, and the branch has two vertices or more.
-use mathlib.Core.Path.{◌≡◌, refl, sym, ap, ◌∙◌}
 use mathlib.Core.Bool.{Bool, true, false, cond}
 use mathlib.Core.List.{List}
 use Prim.Native.Nat.{ℕ, zero, suc, ◌+◌, ◌-◌, ◌<◌, ◌≤◌}
 use native.Mathlib.Omega.{arith}
 use lib.Dec.{eqb, ltb}
 use lib.ListN.{get_or}
-use Rattle.vertex.specs.Pages.{carried}
 use Rattle.vertex.specs.declared.Junction.{Junction}
-use Rattle.wire.specs.Ends.{CORNER, end_x_at, end_y_at, end_vertex, end_kind, stands, first_from, junction_end, end_distance, nearest_end}
+use Rattle.wire.specs.Ends.{end_vertex, stands, first_from, junction_end, end_distance, nearest_end}
 use Rattle.wire.specs.Lines.{Line}
-use Rattle.wire.specs.Wires.{Wires, wires, Ends, Held, push_end, push_fallback_wire, push_fallback, push_vertices, line_vertices, line_ends, fallback_vertices}
+use Rattle.wire.specs.Wires.{Wires, Ends, Held, push_fallback, push_vertices, line_vertices, line_ends, fallback_vertices}
 use Rattle.wire.proofs.Pushes.{fallback-least}
 use Rattle.wire.proofs.Offers.{held_more, held-push, line-held}
 use Rattle.routing.specs.Branches.{Tried, tried, Limited, Joint, fits, line_wire, fallback_wire, route_wire, joined_end, route_branch}

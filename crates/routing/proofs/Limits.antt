@@ -1,13 +1,13 @@
 -- Of a tried wire: it keeps the limits of vertices and ends, and at 0 it has two vertices or more.
-use mathlib.Core.Path.{◌≡◌, refl, sym, ap, ◌∙◌}
-use mathlib.Core.Bool.{Bool, true, false, cond, ◌&&◌}
+use mathlib.Core.Path.{◌≡◌, refl, sym}
+use mathlib.Core.Bool.{Bool, true, false, cond}
 use Prim.Native.Nat.{ℕ, zero, suc, ◌+◌, ◌-◌, ◌<◌, ◌≤◌}
 use native.Mathlib.Omega.{arith}
 use lib.Dec.{eqb, leb}
-use borrow.Author.Tests.{leb-true, eqb-true, eqb-false}
+use borrow.Author.Tests.{leb-true, eqb-false}
 use Rattle.fixed.proofs.Bools.{and_left, and_right}
 use Rattle.vertex.specs.declared.Junction.{Junction}
-use Rattle.wire.specs.Lines.{Line, straight, kept}
+use Rattle.wire.specs.Lines.{Line, straight}
 use Rattle.wire.specs.Wires.{Wires, wires, Vertices, push_vertex, push_end, push_dummies, push_start, push_start_ends, push_corner, push_node, push_nodes, push_vertices, bent, corner_x, corner_y, push_bend, push_fallback_wire, push_fallback, line_vertices, line_ends, fallback_vertices}
 use Rattle.wire.proofs.Pushes.{nodes-n, fallback-least}
 use Rattle.routing.specs.Branches.{Tried, tried, Limited, fits, line_wire, fallback_wire, route_wire}

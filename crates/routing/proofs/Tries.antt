@@ -1,8 +1,8 @@
 -- What each way out of a tried wire returns is what the definition says.
-use mathlib.Core.Path.{◌≡◌, refl, sym, ap, ◌∙◌}
+use mathlib.Core.Path.{◌≡◌, sym, ◌∙◌}
 use mathlib.Core.Bool.{Bool, true, false, not, ◌&&◌}
 use mathlib.Core.List.{List}
-use Prim.Native.Nat.{ℕ, zero, suc, ◌+◌, ◌-◌, ◌<◌, ◌≤◌}
+use Prim.Native.Nat.{ℕ, ◌+◌, ◌-◌, ◌≤◌}
 use lib.Dec.{eqb, leb}
 use lib.ListN.{get_or}
 use borrow.Author.Tests.{eq-eqb, ne_eqb, leb-true, not-true, not-false}
@@ -11,7 +11,7 @@ use Rattle.vertex.specs.declared.Junction.{Junction}
 use Rattle.vertex.specs.Pages.{carried}
 use Rattle.wire.specs.Ends.{CORNER, end_x_at, end_y_at, end_vertex, end_kind, nearest_end, junction_end}
 use Rattle.wire.specs.Lines.{Line}
-use Rattle.wire.specs.Wires.{Wires, wires, Vertices, Ends, ends, push_vertices, push_fallback, line_vertices, line_ends, fallback_vertices}
+use Rattle.wire.specs.Wires.{Wires, Ends, push_vertices, push_fallback, line_vertices, line_ends, fallback_vertices}
 use Rattle.routing.specs.Branches.{Tried, tried, fits, line_wire, fallback_wire, route_wire, joined_end, route_branch, put_junction, join_branch}
 
 module _ (n v m e : ℕ) (b : Bool) (q : b ≡ fits n v m e) (t : not b ≡ false) where

@@ -1,6 +1,6 @@
 -- 01, 'Nets' (`route_root_wire`, `route_branch_wires`): one wire of a net along the line that a search gave, a line of no nodes where it gave none.
 -- Numbers: 14 a line of one node, 15 page vertices or net ends over their limit.
-use Rattle.std.specs.Prelude.{◌≡◌, Bool, true, false, ◌&&◌, cond, List, ℕ, ◌+◌, ◌-◌, ◌*◌, ◌<◌, ◌≤◌, eqb, leb, get_or, set}
+use Rattle.std.specs.Prelude.{◌≡◌, Bool, false, ◌&&◌, cond, List, ℕ, ◌+◌, ◌-◌, ◌*◌, ◌<◌, ◌≤◌, eqb, leb, get_or, set}
 use Rattle.vertex.specs.Pages.{VERTICES, carried}
 use Rattle.vertex.specs.declared.Junction.{Junction}
 use Rattle.wire.specs.Ends.{ENDS, CORNER, end_x_at, end_y_at, end_vertex, end_kind, junction_end, nearest_end}

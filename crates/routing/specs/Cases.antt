@@ -1,5 +1,5 @@
 -- 01, 'Cases at the edges', of nets. Units are 256 steps; coordinates are counted from −2^31.
-use Rattle.std.specs.Prelude.{◌≡◌, List, [], ◌∷◌, ℕ, ◌+◌, ◌*◌}
+use Rattle.std.specs.Prelude.{◌≡◌, [], ◌∷◌, ℕ, ◌+◌, ◌*◌}
 use Rattle.fixed.specs.Constants.{UNIT}
 use Rattle.fixed.specs.Up.{BIAS}
 use Rattle.routing.specs.Roots.{root_pair}

@@ -2,23 +2,23 @@
 --     flat_rows      the first n rows of some words are the words themselves
 --     count-desk     a kind's count in a desk's words
 --     rows-desk      a kind's rows in a desk's words
-use mathlib.Core.Path.{◌≡◌, refl, sym, ap, ◌∙◌}
-use mathlib.Core.List.{List, [], ◌∷◌, ◌++◌}
+use mathlib.Core.Path.{◌≡◌, sym, ap, ◌∙◌}
+use mathlib.Core.List.{List, ◌++◌}
 use mathlib.Core.Bool.{true}
-use Prim.Native.Nat.{ℕ, zero, suc, ◌+◌, ◌-◌, ◌*◌, ◌≤◌, ◌<◌}
+use Prim.Native.Nat.{ℕ, zero, suc, ◌+◌, ◌-◌, ◌*◌, ◌≤◌}
 use native.Mathlib.Nat.{zero-mul}
 use native.Mathlib.Omega.{arith}
-use lib.ListN.{length, get_or, take, drop, length-take}
+use lib.ListN.{length, get_or, take, drop}
 use lib.Seq.{take-add, take-take, drop-drop}
 use Rattle.rows.specs.Rows.{rows, records, part, count}
 use Rattle.rows.proofs.Rows.{suc-row, take-drop}
 use Rattle.desk.specs.Sizes.{DESK}
 use Rattle.block.specs.Sizes.{BLOCK}
 use Rattle.book.specs.Book.{list, width, most, valid}
-use Rattle.block.specs.Block.{start, size, area, list_of, lists_of}
+use Rattle.block.specs.Block.{start, size, area, list_of}
 use Rattle.desk.specs.Desk.{block, book_of}
 use Rattle.book.specs.declared.Kind.{Kind}
-use Rattle.block.proofs.Blocks.{length-list, rows_in, within, size_is}
+use Rattle.block.proofs.Blocks.{length-list, rows_in, within}
 use Rattle.block.proofs.Lists.{list-is, few-all}
 use Rattle.desk.proofs.Decode.{count-now}
 use Rattle.desk.proofs.Valid.{head_ok}

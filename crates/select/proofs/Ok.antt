@@ -5,19 +5,19 @@
 --     box-order                        least is at most greatest
 --     port-dirs, end-marks             directions at most 15, marks at most 1
 --     port_words, end_words            every word is below what the greatest id is below
-use mathlib.Core.Path.{◌≡◌, refl, sym, ap, ◌∙◌}
-use mathlib.Core.List.{List, [], ◌∷◌}
+use mathlib.Core.Path.{◌≡◌, refl}
+use mathlib.Core.List.{List, []}
 use mathlib.Core.Bool.{Bool, true, ◌&&◌}
 use Prim.Native.Nat.{ℕ, zero, suc, ◌+◌, ◌*◌, ◌<◌, ◌≤◌}
 use native.Mathlib.Omega.{arith}
 use borrow.Author.Tests.{leb-true}
-use lib.Dec.{eqb, leb}
+use lib.Dec.{leb}
 use lib.ListN.{length, get_or}
 use Rattle.fixed.specs.Constants.{LEAST, GREATEST}
 use Rattle.fixed.proofs.Bools.{and_left, and_right}
 use Rattle.rows.proofs.Rows.{row_in}
 use Rattle.book.specs.Sizes.{IDS}
-use Rattle.book.specs.Book.{Record, Lists, width, ok_id_in, ok_id, ok_place, ok_fields, ok_record, ok_lists}
+use Rattle.book.specs.Book.{Record, Lists, width, ok_id_in, ok_id, ok_place, ok_record, ok_lists}
 use Rattle.book.specs.declared.Kind.{Kind}
 use Rattle.book.proofs.Fields.{record-ranged}
 use Rattle.book.proofs.Keeps.{boxes-ok, nets-ok, ports-ok, ends-ok, owners-few, owners-scan, members-few, members-scan}

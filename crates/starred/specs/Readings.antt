@@ -1,6 +1,6 @@
 -- 01's rules on closed pages where a plausible wrong reading answers otherwise, its 'Plausible drawings that are wrong' among them. For each row a must-fail edit puts the
 -- wrong reading's answer in place of the right one.
-use Rattle.std.specs.Prelude.{◌≡◌, Bool, true, false, List, [], ◌∷◌, ℕ, ◌+◌, ◌-◌, ◌*◌, pos, get_or, drop, replicate}
+use Rattle.std.specs.Prelude.{◌≡◌, true, false, List, [], ◌∷◌, ℕ, ◌+◌, ◌-◌, ◌*◌, pos, get_or, drop, replicate}
 use Rattle.fixed.specs.Constants.{UNIT}
 use Rattle.fixed.specs.Up.{BIAS}
 use Rattle.corridors.specs.Cases.{downs, holes}

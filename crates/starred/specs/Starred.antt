@@ -1,5 +1,5 @@
 -- 01, 'Cases at the edges': the cases marked *, in one table under one statement. Units are 256 steps.
-use Rattle.std.specs.Prelude.{◌≡◌, true, false, List, [], ◌∷◌, ℕ, ◌+◌, ◌-◌, ◌*◌, pos}
+use Rattle.std.specs.Prelude.{◌≡◌, true, false, List, [], ◌∷◌, ℕ, ◌-◌, ◌*◌, pos}
 use Rattle.fixed.specs.Constants.{UNIT}
 use Rattle.fixed.specs.Up.{up}
 use Rattle.fixed.specs.Steps.{penalty}

@@ -1,19 +1,17 @@
 -- Every end of a net names a vertex of the page: kept by each wire that is added.
-use mathlib.Core.Path.{◌≡◌, refl, sym, ap, ◌∙◌}
+use mathlib.Core.Path.{◌≡◌, ◌∙◌}
 use mathlib.Core.Bool.{Bool, true, false, cond}
 use mathlib.Core.List.{List, [], ◌∷◌}
-use mathlib.Core.Logic.{◌≢◌}
 use Prim.Native.Nat.{ℕ, zero, suc, ◌+◌, ◌-◌, ◌*◌, ◌<◌, ◌≤◌}
 use native.Mathlib.Decide.{ℕ_discrete}
 use native.Mathlib.Nat.{le_refl}
 use native.Mathlib.Omega.{arith}
 use lib.ListN.{get_or, set}
 use lib.Seq.{get_or-set_other}
-use lib.Dec.{eqb}
 use Rattle.vertex.specs.declared.Junction.{Junction}
-use Rattle.wire.specs.Ends.{CORNER, LINE, end_vertex, put_end}
+use Rattle.wire.specs.Ends.{end_vertex, put_end}
 use Rattle.wire.specs.Lines.{Line, straight}
-use Rattle.wire.specs.Wires.{Vertices, Ends, Wires, wires, Held, push_vertex, push_end, push_dummies, push_start, push_start_ends, corner_kind, push_corner, push_node, push_nodes, push_vertices, push_bend, push_fallback_wire, push_fallback}
+use Rattle.wire.specs.Wires.{Ends, Wires, Held, push_vertex, push_end, push_dummies, push_start, push_start_ends, push_corner, push_node, push_nodes, push_vertices}
 
 set-le : (l : List ℕ) (i a : ℕ) → get_or (set l i a) i 0 ≤ a
 set-le [] i a = omega arith

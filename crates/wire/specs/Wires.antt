@@ -1,5 +1,5 @@
 -- 01, 'Nets' (`push_vertices`, `push_fallback_vertices`): what one wire adds to the page's vertices and to its net's ends.
-use Rattle.std.specs.Prelude.{Bool, true, false, ◌&&◌, ◌||◌, not, cond, List, ℕ, zero, suc, ◌+◌, ◌-◌, ◌*◌, ◌%◌, ◌<◌, ◌≤◌, eqb, get_or, set, ℤ}
+use Rattle.std.specs.Prelude.{Bool, true, ◌&&◌, not, cond, List, ℕ, zero, suc, ◌+◌, ◌-◌, ◌<◌, ◌≤◌, eqb, get_or, set, ℤ}
 use Rattle.fixed.specs.Up.{ups}
 use Rattle.fixed.specs.Steps.{dummy}
 use Rattle.vertex.specs.Kinds.{letter_of}

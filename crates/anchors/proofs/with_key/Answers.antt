@@ -1,6 +1,5 @@
 -- The anchors so far are those of the first k rows.
 use mathlib.Core.Path.{refl}
-use Prim.Native.Nat.{◌-◌}
 use native.Mathlib.Omega.{arith}
 use borrow.Author.Rules.{rules}
 use Rattle.anchors.proofs.Columns.{key-begin, key-on, key-asks, key-end}

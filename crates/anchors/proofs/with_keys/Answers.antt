@@ -1,6 +1,5 @@
 -- The anchors so far are those of the first i keys.
 use mathlib.Core.Path.{refl}
-use Prim.Native.Nat.{◌-◌}
 use native.Mathlib.Omega.{arith}
 use borrow.Author.Rules.{rules}
 use Rattle.anchors.proofs.Columns.{keys-begin, keys_on, keys-asks, keys-end}

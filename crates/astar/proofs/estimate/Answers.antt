@@ -1,9 +1,6 @@
 -- The best of the ends passed and the nearest of those left give the nearest of all.
 use borrow.Author.Rules.{rules}
 use native.Mathlib.Omega.{arith}
-use Prim.Native.Nat.{◌-◌}
-use lib.ListN.{take}
-use Rattle.astar.specs.Search.{nearest}
 use Rattle.astar.proofs.Laws.{nearest-begin, nearest-take, nearest-keep, nearest-done}
 use Rattle.astar.proofs.estimate.Goals as goal
 use Rattle.astar.proofs.estimate.Goals.{else-d-best, then-d-best}

@@ -1,9 +1,7 @@
 -- Each direction's move follows on the moves of those before it.
 use mathlib.Core.Path.{refl, ◌∙◌}
 use native.Mathlib.Omega.{arith}
-use Prim.Native.Nat.{◌-◌}
 use Rattle.columns.proofs.Laws.{column-long}
-use Rattle.astar.specs.Search.{relax_to}
 use Rattle.astar.proofs.Roads.{pen-high}
 use Rattle.astar.proofs.Laws.{arrival-le}
 use Rattle.astar.proofs.State.{relax_to-zero, relax_to-next, expand-done, low-still}

@@ -1,7 +1,6 @@
 -- The run from here is the run from the start; each turn is one of the definition's, and makes what is left fall.
 use mathlib.Core.Path.{refl, ◌∙◌}
 use native.Mathlib.Omega.{arith}
-use Rattle.astar.specs.Scratch.{state}
 use Rattle.astar.proofs.Roads.{roads}
 use Rattle.astar.proofs.Turn.{going-first, going-empty, going-in, going-low, going-pred, going-hit, going_less, going_on, marked-yes, marked-no, popped-state, popped-held, begun-held}
 use Rattle.astar.proofs.find_path_impl.Goals as goal

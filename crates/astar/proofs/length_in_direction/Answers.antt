@@ -1,7 +1,7 @@
 -- Each move back adds its length; the way to the side that the run goes towards falls by as much.
 use mathlib.Core.Path.{sym, ◌∙◌}
 use native.Mathlib.Omega.{arith}
-use Rattle.astar.proofs.Roads.{along, along-lt}
+use Rattle.astar.proofs.Roads.{along-lt}
 use Rattle.astar.proofs.Laws.{walk_start, walk_none, walk_turn, walk_step, walk-in, walk-sum, walk-pos}
 use Rattle.astar.proofs.length_in_direction.Goals as goal
 

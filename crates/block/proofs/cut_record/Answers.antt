@@ -2,8 +2,6 @@
 use mathlib.Core.Path.{refl}
 use Prim.Native.Nat.{◌-◌, ◌+◌}
 use native.Mathlib.Omega.{arith}
-use Rattle.book.specs.Book.{width}
-use Rattle.block.specs.Block.{size}
 use Rattle.block.proofs.Blocks
 use Rattle.block.proofs.cut_record.Goals as goal
 

@@ -1,6 +1,5 @@
 -- `block::each_owns` meets its contract. What the scan says of the whole list it says of what is left.
 use mathlib.Core.Path.{refl}
-use Prim.Native.Nat.{◌-◌}
 use native.Mathlib.Omega.{arith}
 use borrow.Author.Rules.{rules}
 use Rattle.block.proofs.Fits

@@ -2,7 +2,7 @@
 use mathlib.Core.Path.{refl}
 use Prim.Native.Nat.{◌-◌, ◌+◌}
 use native.Mathlib.Omega.{arith}
-use Rattle.book.specs.Book.{most, ok_members}
+use Rattle.book.specs.Book.{ok_members}
 use Rattle.block.proofs.Blocks
 use Rattle.block.proofs.Fits
 use Rattle.block.proofs.ok_members.Goals as goal

@@ -2,7 +2,7 @@
 use mathlib.Core.Path.{refl}
 use Prim.Native.Nat.{◌-◌, ◌+◌}
 use native.Mathlib.Omega.{arith}
-use Rattle.book.specs.Book.{most, own, ok_owners}
+use Rattle.book.specs.Book.{own, ok_owners}
 use Rattle.block.proofs.Blocks
 use Rattle.block.proofs.Fits
 use Rattle.block.proofs.ok_owners.Goals as goal

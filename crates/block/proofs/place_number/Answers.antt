@@ -1,6 +1,5 @@
 -- `block::place_number` meets its contract. The place against the count.
 use borrow.Author.Tests.{lt-ltb, le-ltb}
-use Rattle.rows.specs.Rows.{records}
 use Rattle.block.proofs.Blocks
 use Rattle.block.proofs.place_number.Goals as goal
 

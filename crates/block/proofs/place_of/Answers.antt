@@ -2,9 +2,6 @@
 use mathlib.Core.Path.{refl}
 use Prim.Native.Nat.{◌-◌, ◌+◌}
 use native.Mathlib.Omega.{arith}
-use Rattle.rows.specs.Rows.{records}
-use Rattle.book.specs.Book.{width}
-use Rattle.block.specs.Block.{size}
 use Rattle.block.proofs.Blocks
 use Rattle.block.proofs.place_of.Goals as goal
 

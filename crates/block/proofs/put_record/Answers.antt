@@ -2,7 +2,6 @@
 use mathlib.Core.Path.{refl}
 use Prim.Native.Nat.{◌-◌, ◌+◌}
 use native.Mathlib.Omega.{arith}
-use Rattle.block.specs.Block.{size}
 use Rattle.block.proofs.Blocks
 use Rattle.block.proofs.put_record.Goals as goal
 

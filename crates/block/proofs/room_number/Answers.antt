@@ -1,7 +1,5 @@
 -- `block::room_number` meets its contract. The count against the limit.
 use borrow.Author.Tests.{lt-ltb, le-ltb}
-use Rattle.rows.specs.Rows.{records}
-use Rattle.book.specs.Book.{most}
 use Rattle.block.proofs.Blocks
 use Rattle.block.proofs.room_number.Goals as goal
 

@@ -1,5 +1,4 @@
 -- The entries before v have the word; no other column changed.
-use Prim.Native.Nat.{◌-◌}
 use native.Mathlib.Omega.{arith}
 use Rattle.columns.proofs.Laws.{filled_none, filled_on, filled-all}
 use Rattle.columns.proofs.fill.Goals as goal

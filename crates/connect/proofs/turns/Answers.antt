@@ -1,7 +1,6 @@
 -- The invariant: what is made is what the turns so far make, and lists keep their lengths.
 use mathlib.Core.Path.{refl, ◌∙◌}
 use native.Mathlib.Omega.{arith}
-use Prim.Native.Nat.{◌-◌}
 use Rattle.connect.proofs.Turning.{turns-none, turns_more, turns-end, turns-first, turns-bounds, page-kept}
 use Rattle.net.proofs.Found.{searching-kept}
 use Rattle.connect.proofs.turns.Goals as goal

@@ -1,6 +1,5 @@
 -- The rows before i are done, and a row that is being done leaves the others.
 use Rattle.corridors.proofs.Filling.{rows_on, table-all}
-use Prim.Native.Nat.{◌-◌}
 use mathlib.Core.Path.{refl, ◌∙◌}
 use native.Mathlib.Omega.{arith}
 use borrow.Author.Count.{below_none}

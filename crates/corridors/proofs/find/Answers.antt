@@ -1,5 +1,4 @@
 -- None of the runs before j is v.
-use Prim.Native.Nat.{◌-◌}
 use native.Mathlib.Omega.{arith}
 use borrow.Author.Count.{below_more, below_none}
 use Rattle.corridors.proofs.Taking.{find_at, find-pass, find-off}

@@ -1,8 +1,7 @@
 -- The runs of the first k cells stand in the row i.
-use Prim.Native.Nat.{◌-◌}
 use mathlib.Core.Path.{refl, ◌∙◌}
 use native.Mathlib.Omega.{arith}
-use lib.ListN.{length, length-set}
+use lib.ListN.{length-set}
 use Rattle.corridors.proofs.Filling.{filling-begin, filling-room, filling-on, filling-end}
 use Rattle.corridors.proofs.list_runs.Goals as goal
 

@@ -1,9 +1,8 @@
 -- The words before i are the directions of i anchors.
-use Prim.Native.Nat.{◌+◌, ◌-◌, ◌<◌}
+use Prim.Native.Nat.{◌+◌, ◌<◌}
 use mathlib.Core.Path.{◌≡◌, refl, ◌∙◌}
 use native.Mathlib.Omega.{arith}
 use lib.ListN.{length}
-use Rattle.corridors.specs.Merge.{directions}
 use Rattle.corridors.proofs.Answer.{directions-on, within_on, within-refl, none-directed}
 use Rattle.corridors.proofs.mark.Goals as goal
 

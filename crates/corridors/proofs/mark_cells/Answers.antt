@@ -1,8 +1,7 @@
 -- The cells before k are marked, the others as they were.
-use Prim.Native.Nat.{◌-◌}
 use mathlib.Core.Path.{refl}
 use native.Mathlib.Omega.{arith}
-use lib.ListN.{length, length-set}
+use lib.ListN.{length-set}
 use Rattle.corridors.proofs.Covering.{marking-begin, marking-on, marking-end}
 use Rattle.corridors.proofs.mark_cells.Goals as goal
 

@@ -1,5 +1,4 @@
 -- The cells that the first j boxes cover are marked.
-use Prim.Native.Nat.{◌-◌}
 use mathlib.Core.Path.{refl, ◌∙◌}
 use native.Mathlib.Omega.{arith}
 use Rattle.corridors.proofs.Covering.{row-begin, row_on, row-end}

@@ -1,12 +1,9 @@
 -- What is left to do from the row i on gives what all rows give.
 use Rattle.corridors.proofs.Laying.{else-refl, else-then}
-use Prim.Native.Nat.{◌-◌}
 use mathlib.Core.Path.{refl, ◌∙◌}
 use native.Mathlib.Omega.{arith}
-use Rattle.corridors.specs.Sizes.{ANCHORS}
-use Rattle.corridors.specs.Merge.{row_corridors}
 use Rattle.corridors.proofs.Folds.{fold-begin, fold_on, fold-full, fold_end}
-use Rattle.corridors.proofs.Laying.{row_kept, row-grows, still}
+use Rattle.corridors.proofs.Laying.{row-grows, still}
 use Rattle.corridors.proofs.merged.Goals as goal
 
 pub loop-i-init : goal.loop-i-init

@@ -1,12 +1,8 @@
 -- What is left to do from the run j on gives what the whole row gives; the row itself is not changed by its own runs.
 use Rattle.corridors.proofs.Laying.{else-refl, else-then}
-use Prim.Native.Nat.{◌-◌}
 use mathlib.Core.Path.{refl, sym, ◌∙◌}
 use native.Mathlib.Omega.{arith}
-use lib.ListN.{length}
-use Rattle.corridors.specs.Sizes.{ANCHORS}
-use Rattle.corridors.specs.Merge.{corridor}
-use Rattle.corridors.specs.Lent.{plan, row}
+use Rattle.corridors.specs.Lent.{plan}
 use Rattle.corridors.proofs.Rows.{row-length}
 use Rattle.corridors.proofs.Folds.{fold-begin, fold_on, fold-full, fold_end}
 use Rattle.corridors.proofs.Laying.{row_kept, corridor-grows, row_laid, count_is, still}

@@ -1,6 +1,5 @@
 -- What is left to take out from the row k on gives what all following rows give.
 use borrow.Author.Tests.{not-true, not-false}
-use Prim.Native.Nat.{◌-◌}
 use mathlib.Core.Path.{sym, ◌∙◌}
 use native.Mathlib.Omega.{arith}
 use Rattle.corridors.proofs.Taking.{taking-begin, taking-on, taking-stopped, taking-done}

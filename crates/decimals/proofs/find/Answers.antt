@@ -1,4 +1,3 @@
-use Prim.Native.Nat.{◌-◌}
 use native.Mathlib.Omega.{arith}
 use Rattle.decimals.proofs.Split as L
 use Rattle.decimals.proofs.find.Goals as goal

@@ -1,8 +1,6 @@
 use borrow.Author.Rules.{rules}
-use Prim.Native.Nat.{◌-◌}
 use mathlib.Core.Path.{refl}
 use native.Mathlib.Omega.{arith}
-use Rattle.decimals.specs.Bytes.{same}
 use Rattle.decimals.proofs.Split as L
 use Rattle.decimals.proofs.same_bytes.Goals as goal
 

@@ -1,5 +1,4 @@
 -- `desk::ok_entries` meets its contract. What the scan over the entries says of all it says of those left, on the block that the others left.
-use mathlib.Core.Bool.{true}
 use Prim.Native.Nat.{◌-◌, ◌+◌, ◌*◌}
 use native.Mathlib.Omega.{arith}
 use borrow.Author.Rules.{rules}

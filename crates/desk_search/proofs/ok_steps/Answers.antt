@@ -1,9 +1,7 @@
 -- `desk_search::ok_steps` meets its contract. What the scan says of the whole list it says of what is left.
 use mathlib.Core.Path.{refl}
-use Prim.Native.Nat.{◌-◌}
 use native.Mathlib.Omega.{arith}
 use borrow.Author.Rules.{rules}
-use Rattle.desk_search.specs.Query.{ok_step}
 use Rattle.desk_search.proofs.Tests.{steps-fail, steps-pass, steps-done}
 use Rattle.desk_search.proofs.ok_steps.Goals as goal
 

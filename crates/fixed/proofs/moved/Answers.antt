@@ -1,11 +1,9 @@
 use mathlib.Core.Path.{◌≡◌, ap}
 use native.Mathlib.Omega.{arith}
-use Prim.Native.Nat.{ℕ, ◌+◌, ◌<◌, ◌≤◌}
-use lib.IntN.{ℤ, pos, nat_abs, ◌+ℤ◌}
-use mir.Syntax.{w32, w64}
-use mir.Val.{SFits, Fits, to_z, of_z}
+use lib.IntN.{ℤ, nat_abs}
+use mir.Syntax.{w64}
+use mir.Val.{SFits, to_z, of_z}
 use mir.Facts.{to_z-of_z}
-use Rattle.fixed.specs.Track.{moved}
 use Rattle.fixed.proofs.Machine.{wider, moved-is, moved-lt}
 use Rattle.fixed.proofs.moved.Goals as goal
 

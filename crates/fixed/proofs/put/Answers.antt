@@ -2,7 +2,6 @@ use mathlib.Core.Path.{◌≡◌}
 use borrow.Author.Rules.{rules}
 use mir.Syntax.{w32}
 use mir.Val.{to_z, of_z}
-use Rattle.fixed.specs.Up.{down}
 use Rattle.fixed.proofs.Lists.{ups-set}
 use Rattle.fixed.proofs.put.Goals as goal
 

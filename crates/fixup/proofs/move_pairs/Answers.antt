@@ -1,6 +1,5 @@
 -- The invariant: the first k pairs are moved.
 use Rattle.fixup.proofs.Moves.{moves-none, moves_more, moves-done, movable-kept, joined-kept}
-use Prim.Native.Nat.{◌-◌}
 use mathlib.Core.Path.{refl, ◌∙◌}
 use native.Mathlib.Omega.{arith}
 use borrow.Author.Rules.{rules}

@@ -1,7 +1,6 @@
 -- The invariant: the nets so far are those of the definition, they fit, and lists keep their lengths.
 use mathlib.Core.Path.{refl, ◌∙◌}
 use native.Mathlib.Omega.{arith}
-use Prim.Native.Nat.{◌-◌}
 use Rattle.layout.proofs.Laying.{nets-none, nets-more, nets-end}
 use Rattle.net.proofs.Found.{searching-kept}
 use Rattle.layout.proofs.lay_each.Goals as goal

@@ -1,5 +1,4 @@
 -- A vertex's junctions a turn.
-use Prim.Native.Nat.{◌-◌}
 use native.Mathlib.Omega.{arith}
 use Rattle.listing.proofs.Writing.{writing_begins, writing-room, writing-on, written_all}
 use Rattle.listing.proofs.put_joins.Goals as goal

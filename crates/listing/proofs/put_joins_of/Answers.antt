@@ -1,5 +1,4 @@
 -- A row's line a turn.
-use Prim.Native.Nat.{◌-◌}
 use native.Mathlib.Omega.{arith}
 use Rattle.listing.specs.Listing.{join_from, joins_of}
 use Rattle.listing.proofs.Writing.{writing_begins, writing-room, writing-on, written_all}

@@ -1,7 +1,6 @@
 -- A net a turn.
 use mathlib.Core.List.{List}
 use lib.IntN.{ℤ}
-use Prim.Native.Nat.{◌-◌}
 use native.Mathlib.Omega.{arith}
 use Rattle.fixed.specs.Up.{ups}
 use Rattle.listing.specs.Listing.{page, net_at, listing}

@@ -1,9 +1,7 @@
 -- Whether the endpoints so far are nodes.
 use native.Mathlib.Omega.{arith}
 use mathlib.Core.Path.{◌≡◌, refl}
-use Prim.Native.Nat.{◌-◌}
 use lib.ListN.{length}
-use Rattle.path_finding.specs.Places.{known}
 use Rattle.path_finding.proofs.Laws.{node-is, known-begin, known_more}
 use Rattle.net.proofs.are_nodes.Goals as goal
 

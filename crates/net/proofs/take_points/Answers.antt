@@ -1,8 +1,6 @@
 -- The endpoints so far are those of the first k rows.
 use native.Mathlib.Omega.{arith}
 use mathlib.Core.Path.{refl, ◌∙◌}
-use Prim.Native.Nat.{◌-◌}
-use Rattle.net.specs.Points.{column}
 use Rattle.net.proofs.Leaves.{column-none, column-end}
 use Rattle.net.proofs.take_points.Goals as goal
 

@@ -1,8 +1,6 @@
 -- The places so far are those of the first i ends.
 use native.Mathlib.Omega.{arith}
 use mathlib.Core.Path.{◌≡◌, refl, ◌∙◌}
-use Prim.Native.Nat.{◌-◌}
-use Rattle.path_finding.specs.Line.{table}
 use Rattle.path_finding.proofs.Laws.{table-begin}
 use Rattle.net.proofs.Leaves.{ends_on}
 use Rattle.net.proofs.write_ends.Goals as goal

@@ -1,7 +1,5 @@
 -- While none of those asked stands there, the answer is false.
-use Prim.Native.Nat.{◌-◌}
 use native.Mathlib.Omega.{arith}
-use Rattle.nodes.specs.Graph.{stands}
 use Rattle.nodes.proofs.Nodes.{none_more}
 use Rattle.nodes.proofs.any_of.Goals as goal
 

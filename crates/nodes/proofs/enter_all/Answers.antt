@@ -1,7 +1,6 @@
 use Rattle.nodes.proofs.Columns.{long}
 use Rattle.nodes.proofs.Maps.{map_next}
 use mathlib.Core.Path.{◌≡◌, refl, ◌∙◌}
-use Prim.Native.Nat.{◌-◌}
 use native.Mathlib.Omega.{arith}
 use Rattle.nodes.proofs.enter_all.Goals as goal
 

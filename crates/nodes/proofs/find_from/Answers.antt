@@ -1,10 +1,7 @@
 -- None that the loop has passed stands there.
-use Prim.Native.Nat.{◌-◌}
 use mathlib.Core.Path.{sym, ◌∙◌}
-use mathlib.Core.Bool.{false}
 use native.Mathlib.Omega.{arith}
 use borrow.Author.Count.{below_more}
-use Rattle.nodes.specs.Graph.{stands}
 use Rattle.nodes.proofs.Nodes.{seek-here, seek-none}
 use Rattle.nodes.proofs.find_from.Goals as goal
 

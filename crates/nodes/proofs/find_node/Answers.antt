@@ -1,6 +1,4 @@
 -- None in the blocks that the loop has passed stands there.
-use Prim.Native.Nat.{◌-◌}
-use mathlib.Core.Bool.{false}
 use native.Mathlib.Omega.{arith}
 use borrow.Author.Count.{below_none}
 use Rattle.nodes.proofs.Nodes.{none-on}

@@ -1,7 +1,7 @@
 -- From `from` to before i none is ignored, and before that all is as it was.
 use mathlib.Core.Path.{◌≡◌}
 use mathlib.Core.List.{◌++◌}
-use Prim.Native.Nat.{◌+◌, ◌-◌, ◌≤◌}
+use Prim.Native.Nat.{◌-◌, ◌≤◌}
 use lib.ListN.{length, replicate}
 use Rattle.fixed.specs.Columns.{column}
 use Rattle.nodes.specs.Graph.{none}

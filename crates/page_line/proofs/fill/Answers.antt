@@ -1,4 +1,3 @@
-use Prim.Native.Nat.{◌-◌}
 use native.Mathlib.Omega.{arith}
 use Rattle.page_line.proofs.Rows as R
 use Rattle.page_line.proofs.fill.Goals as goal

@@ -1,5 +1,4 @@
-use lib.ListN.{length, length-set}
-use Prim.Native.Nat.{◌-◌}
+use lib.ListN.{length-set}
 use native.Mathlib.Omega.{arith}
 use Rattle.page_text.proofs.Told as W
 use Rattle.page_text.proofs.report.Goals as goal

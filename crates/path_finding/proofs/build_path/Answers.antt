@@ -1,7 +1,7 @@
 -- What is written is the back of the line; the chain from the node at hand is its front.
 use mathlib.Core.Path.{refl, sym, ◌∙◌}
 use native.Mathlib.Omega.{arith}
-use lib.ListN.{length, length-set}
+use lib.ListN.{length-set}
 use Rattle.astar.proofs.Trace.{trace-start, trace-in, trace-pos, trace-last, trace-step}
 use Rattle.path_finding.proofs.build_path.Goals as goal
 

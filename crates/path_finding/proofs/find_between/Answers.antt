@@ -2,7 +2,6 @@
 use borrow.Author.Tests.{not-true, not-false}
 use mathlib.Core.Path.{sym}
 use native.Mathlib.Omega.{arith}
-use lib.ListN.{length}
 use Rattle.fixed.proofs.Lists.{length-ups}
 use Rattle.path_finding.proofs.Between.{few-lent, start_is, apart-lent, ends-below, no_start, no_end, answered}
 use Rattle.path_finding.proofs.find_between.Goals as goal

@@ -1,7 +1,6 @@
 -- The ends that count are listed; the search goes to one of them; its line is traced back.
 use mathlib.Core.Path.{sym}
 use native.Mathlib.Omega.{arith}
-use lib.ListN.{length}
 use lib.Seq.{length-take-le}
 use Rattle.astar.proofs.Line.{line-traced}
 use Rattle.path_finding.proofs.Lines.{goals-are-nodes, no_line, a-line, none-counts, nothing-behind, all-goals, lent-scores, lent-preds, lent-sums, lent-held}

@@ -1,7 +1,6 @@
 -- The ends that count among those passed are listed and marked.
 use mathlib.Core.Path.{◌≡◌}
 use native.Mathlib.Omega.{arith}
-use Prim.Native.Nat.{◌-◌}
 use Rattle.path_finding.proofs.Laws.{gathering-none, gathering-in, gathering-on}
 use Rattle.path_finding.proofs.gather.Goals as goal
 

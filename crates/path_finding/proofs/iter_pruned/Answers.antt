@@ -1,8 +1,6 @@
 -- What is kept of the first k nodes is listed.
 use mathlib.Core.Path.{◌≡◌, refl, ◌∙◌}
 use native.Mathlib.Omega.{arith}
-use Prim.Native.Nat.{◌-◌}
-use Rattle.path_finding.specs.Line.{pruned}
 use Rattle.path_finding.proofs.Laws.{pruned-begin}
 use Rattle.path_finding.proofs.iter_pruned.Goals as goal
 

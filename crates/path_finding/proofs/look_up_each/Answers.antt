@@ -1,10 +1,7 @@
 -- The nodes of the ends passed are listed, and whether all of them are nodes is known.
 use mathlib.Core.Path.{◌≡◌, refl}
 use native.Mathlib.Omega.{arith}
-use Prim.Native.Nat.{◌-◌}
 use lib.ListN.{length, length-set}
-use Rattle.path_finding.specs.Line.{table}
-use Rattle.path_finding.specs.Places.{known}
 use Rattle.path_finding.proofs.Laws.{table-begin, table_more, known-begin, known_more}
 use Rattle.path_finding.proofs.look_up_each.Goals as goal
 

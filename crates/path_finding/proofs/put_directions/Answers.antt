@@ -1,8 +1,8 @@
 use borrow.Author.Rules.{rules}
 use mathlib.Core.Path.{◌≡◌, subst}
 use native.Mathlib.Omega.{arith}
-use Prim.Native.Nat.{ℕ, ◌-◌, ◌*◌}
-use lib.ListN.{length, take, length-set}
+use Prim.Native.Nat.{ℕ, ◌*◌}
+use lib.ListN.{take, length-set}
 use Rattle.nodes.specs.Columns.{whole}
 use Rattle.path_finding.specs.Line.{table, direction_at}
 use Rattle.path_finding.proofs.Laws.{table-begin, table_more}

@@ -1,8 +1,8 @@
 use borrow.Author.Rules.{rules}
 use mathlib.Core.Path.{◌≡◌, subst}
 use native.Mathlib.Omega.{arith}
-use Prim.Native.Nat.{ℕ, ◌-◌}
-use lib.ListN.{length, take, length-set}
+use Prim.Native.Nat.{ℕ}
+use lib.ListN.{take, length-set}
 use Rattle.path_finding.specs.Line.{table, kind_at}
 use Rattle.path_finding.proofs.Laws.{table-begin, table_more}
 use Rattle.path_finding.proofs.put_kinds.Goals as goal

@@ -1,5 +1,4 @@
 use Rattle.prune.proofs.Lent.{back-aimed, back-left}
-use Prim.Native.Nat.{◌-◌}
 use Rattle.prune.proofs.back.Goals as goal
 
 pub returns-then-v-n : goal.returns-then-v-n

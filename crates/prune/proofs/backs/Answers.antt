@@ -1,5 +1,4 @@
 use Rattle.prune.proofs.Lent.{backs-by}
-use Prim.Native.Nat.{◌-◌}
 use Rattle.prune.proofs.backs.Goals as goal
 
 pub returns : goal.returns

@@ -1,5 +1,4 @@
 use Rattle.nodes.specs.Columns.{whole}
-use Prim.Native.Nat.{◌-◌}
 use native.Mathlib.Omega.{arith}
 use Rattle.prune.proofs.Lent.{drop-last, drop-inner}
 use Rattle.prune.proofs.drop_node.Goals as goal

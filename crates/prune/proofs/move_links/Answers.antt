@@ -1,5 +1,4 @@
 use Rattle.prune.proofs.Lent.{aims}
-use Prim.Native.Nat.{◌-◌}
 use Rattle.prune.proofs.move_links.Goals as goal
 
 pub returns : goal.returns

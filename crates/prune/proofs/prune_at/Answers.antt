@@ -1,5 +1,4 @@
 use Rattle.nodes.specs.Columns.{whole}
-use Prim.Native.Nat.{◌-◌}
 use mathlib.Core.Path.{sym, ◌∙◌}
 use native.Mathlib.Omega.{arith}
 use Rattle.prune.proofs.Lent.{goes_at, prune-stays, prune-goes}

@@ -1,5 +1,4 @@
 use lib.ListN.{length}
-use Prim.Native.Nat.{◌-◌}
 use mathlib.Core.Path.{◌≡◌}
 use Rattle.nodes.specs.Columns.{graph}
 use Rattle.prune.proofs.Lent.{Pruning}

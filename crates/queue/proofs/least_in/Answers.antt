@@ -1,7 +1,6 @@
 use borrow.Author.Rules.{rules}
 use mathlib.Core.Path.{◌≡◌}
 use native.Mathlib.Omega.{arith}
-use Prim.Native.Nat.{◌-◌}
 use Rattle.queue.proofs.Ranges.{leaf}
 use Rattle.queue.proofs.Steps.{join-take, join-keep}
 use Rattle.queue.proofs.least_in.Goals as goal

@@ -1,6 +1,6 @@
 -- On the way up only the next parent may not be the lesser of its two.
 use mathlib.Core.Path.{refl}
-use lib.ListN.{length, length-set}
+use lib.ListN.{length-set}
 use Rattle.queue.proofs.Tournament.{rising-first, rising-next, risen}
 use Rattle.queue.proofs.raise.Goals as goal
 

@@ -1,6 +1,5 @@
 -- The invariant: `best` is the first greatest of the pairs passed.
 use Rattle.routing.proofs.Pairs.{square-most, square-least, root_none, root-take, root-keep, root-done}
-use Prim.Native.Nat.{◌-◌}
 use mathlib.Core.Path.{◌∙◌}
 use native.Mathlib.Omega.{arith}
 use Rattle.routing.proofs.pick_root_path.Goals as goal

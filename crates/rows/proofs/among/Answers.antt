@@ -1,6 +1,5 @@
 -- `rows::among` meets its contract. The key is among all the words, if it is among those seen or those left.
 use mathlib.Core.Path.{refl}
-use Prim.Native.Nat.{◌-◌}
 use native.Mathlib.Omega.{arith}
 use borrow.Author.Rules.{rules}
 use Rattle.rows.proofs.Rows

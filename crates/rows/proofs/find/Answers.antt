@@ -1,6 +1,5 @@
 -- `rows::find` meets its contract. What is left to search gives the same place.
 use mathlib.Core.Path.{refl}
-use Prim.Native.Nat.{◌-◌}
 use native.Mathlib.Omega.{arith}
 use borrow.Author.Rules.{rules}
 use Rattle.rows.proofs.Rows

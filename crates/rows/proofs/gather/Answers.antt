@@ -1,8 +1,7 @@
 -- `rows::gather` meets its contract. The first i keys stand side by side.
 use mathlib.Core.Path.{refl}
-use Prim.Native.Nat.{◌-◌}
 use native.Mathlib.Omega.{arith}
-use lib.ListN.{length, length-set}
+use lib.ListN.{length-set}
 use borrow.Author.Rules.{rules}
 use Rattle.rows.proofs.Rows
 use Rattle.rows.proofs.gather.Goals as goal

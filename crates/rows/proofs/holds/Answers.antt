@@ -1,6 +1,6 @@
 -- `rows::holds` meets its contract. The key is among all the rows, if it is among those seen or those left.
 use mathlib.Core.Path.{refl}
-use Prim.Native.Nat.{◌-◌, ◌≤◌}
+use Prim.Native.Nat.{◌≤◌}
 use native.Mathlib.Omega.{arith}
 use lib.ListN.{length}
 use borrow.Author.Rules.{rules}

@@ -1,7 +1,6 @@
 -- `rows::move_down` meets its contract. What lies behind the words moved is untouched.
-use Prim.Native.Nat.{◌-◌}
 use native.Mathlib.Omega.{arith}
-use lib.ListN.{length, length-set}
+use lib.ListN.{length-set}
 use borrow.Author.Rules.{rules}
 use Rattle.rows.proofs.Words.{none_yet, at_end, down_step}
 use Rattle.rows.proofs.move_down.Goals as goal

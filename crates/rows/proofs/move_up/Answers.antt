@@ -1,7 +1,6 @@
 -- `rows::move_up` meets its contract. The last words are moved first; what lies before is untouched.
-use Prim.Native.Nat.{◌-◌}
 use native.Mathlib.Omega.{arith}
-use lib.ListN.{length, length-set}
+use lib.ListN.{length-set}
 use borrow.Author.Rules.{rules}
 use Rattle.rows.proofs.Words.{up-again, up-end, up_start}
 use Rattle.rows.proofs.move_up.Goals as goal

@@ -1,7 +1,6 @@
 -- `rows::put` meets its contract. The words written so far are the row's first j.
-use Prim.Native.Nat.{◌-◌}
 use native.Mathlib.Omega.{arith}
-use lib.ListN.{length, length-set}
+use lib.ListN.{length-set}
 use borrow.Author.Rules.{rules}
 use Rattle.rows.proofs.Words.{none_yet, at_end, put_step}
 use Rattle.rows.proofs.put.Goals as goal

@@ -1,7 +1,6 @@
-use Prim.Native.Nat.{◌-◌}
 use native.Mathlib.Omega.{arith}
 use borrow.Author.Rules.{rules}
-use Rattle.scan.specs.Scan.{scan_at, build_nodes, build}
+use Rattle.scan.specs.Scan.{build}
 use Rattle.scan.proofs.Folds.{fold-begin, fold_on, fold-crowded, fold-arrived}
 use Rattle.scan.proofs.Grows.{scan-grow, build-full}
 use Rattle.scan.proofs.build_by.Goals as goal

@@ -1,4 +1,3 @@
-use Prim.Native.Nat.{◌-◌}
 use borrow.Author.Tests.{eq-eqb, ne_eqb}
 use Rattle.scan.specs.Scan.{has}
 use Rattle.scan.proofs.has.Goals as goal

@@ -1,4 +1,3 @@
-use Prim.Native.Nat.{◌-◌}
 use borrow.Author.Tests.{lt-ltb, le-ltb}
 use Rattle.scan.specs.Walk.{place_on, find_on}
 use Rattle.scan.proofs.place_on.Goals as goal

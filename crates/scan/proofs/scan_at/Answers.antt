@@ -1,4 +1,3 @@
-use Prim.Native.Nat.{◌-◌}
 use native.Mathlib.Omega.{arith}
 use Rattle.scan.specs.Scan.{scan_at}
 use Rattle.scan.proofs.scan_at.Goals as goal

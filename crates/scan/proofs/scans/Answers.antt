@@ -1,8 +1,7 @@
-use Prim.Native.Nat.{◌-◌}
 use mathlib.Core.Path.{refl}
 use native.Mathlib.Omega.{arith}
 use borrow.Author.Rules.{rules}
-use Rattle.scan.specs.Scan.{toward, scans}
+use Rattle.scan.specs.Scan.{scans}
 use Rattle.scan.proofs.Folds.{fold-begin, fold_on, fold-crowded, fold-arrived, fold-count}
 use Rattle.scan.proofs.Grows.{toward-grow}
 use Rattle.scan.proofs.scans.Goals as goal

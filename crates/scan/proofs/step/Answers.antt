@@ -1,5 +1,4 @@
 use Rattle.nodes.proofs.Maps.{keyed-linked}
-use Prim.Native.Nat.{◌-◌}
 use native.Mathlib.Omega.{arith}
 use Rattle.nodes.specs.Graph.{link}
 use Rattle.nodes.proofs.Nodes.{link-first}

@@ -1,6 +1,5 @@
 -- The edge of the boxes that were passed is the nearest of them.
 -- The edge of the boxes that were passed is the nearest of them.
-use Prim.Native.Nat.{◌-◌}
 use mathlib.Core.Path.{◌≡◌}
 use mathlib.Core.Bool.{false}
 use native.Mathlib.Omega.{arith}

@@ -1,11 +1,10 @@
 -- Every box is asked, also behind one that stops the way, so that several can be asked at once.
 -- whether one of the boxes that were passed stops the way
-use Prim.Native.Nat.{◌-◌}
 use mathlib.Core.Path.{◌≡◌, refl, ap}
 use mathlib.Core.Bool.{not}
 use native.Mathlib.Omega.{arith}
 use Rattle.sightline.specs.Count.{any}
-use Rattle.sightline.specs.Sight.{box_stops, blocked}
+use Rattle.sightline.specs.Sight.{blocked}
 use Rattle.sightline.proofs.Counting.{any-more}
 use Rattle.sightline.proofs.clear.Goals as goal
 

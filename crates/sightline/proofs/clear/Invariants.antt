@@ -3,7 +3,7 @@
 use Prim.Native.Nat.{◌≤◌, ◌-◌}
 use mathlib.Core.Path.{◌≡◌}
 use Rattle.sightline.specs.Count.{any}
-use Rattle.sightline.specs.Sight.{box_stops, blocked}
+use Rattle.sightline.specs.Sight.{box_stops}
 use Rattle.sightline.specs.Lent.{line}
 use Rattle.sightline.proofs.clear.Given as goal
 

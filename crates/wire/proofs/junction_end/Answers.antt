@@ -1,6 +1,5 @@
 -- The first end at the place from `i` on is the first of all.
 use Rattle.wire.proofs.Seeking.{first-begin, first-here, first_on, first-none, first_is}
-use Prim.Native.Nat.{◌-◌}
 use borrow.Author.Rules.{rules}
 use mathlib.Core.Path.{refl}
 use native.Mathlib.Omega.{arith}

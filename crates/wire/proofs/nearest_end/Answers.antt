@@ -1,7 +1,6 @@
 -- The invariant: `best` is the first least of the ends passed.
 use Rattle.wire.proofs.Seeking.{nearest-take, nearest-keep, nearest_zero}
 use Rattle.wire.specs.Ends.{nearest_end}
-use Prim.Native.Nat.{◌-◌}
 use borrow.Author.Rules.{rules}
 use mathlib.Core.Path.{◌≡◌, ◌∙◌, ap}
 use native.Mathlib.Omega.{arith}

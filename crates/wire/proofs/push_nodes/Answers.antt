@@ -2,7 +2,6 @@
 use Rattle.wire.proofs.Pushes.{nodes-none, nodes-more, nodes-done, nodes-total}
 use Rattle.wire.proofs.Counts.{kept-room, kept-most}
 use Rattle.wire.specs.Lines.{path_line}
-use Prim.Native.Nat.{◌-◌}
 use lib.ListN.{length}
 use borrow.Author.Rules.{rules}
 use native.Mathlib.Omega.{arith}

@@ -1,8 +1,7 @@
 -- From `from` to before i all is zero, and before that as it was.
 use mathlib.Core.Path.{refl, ◌∙◌}
-use Prim.Native.Nat.{◌-◌}
 use native.Mathlib.Omega.{arith}
-use lib.ListN.{length, length-set}
+use lib.ListN.{length-set}
 use Rattle.zeros.proofs.Zeroed.{cleared-begin, cleared-on, cleared-end}
 use Rattle.zeros.proofs.zero_bytes.Goals as goal
 

@@ -1,5 +1,4 @@
 -- From `from` to before i all is zero, and before that as it was.
-use Prim.Native.Nat.{◌-◌}
 use mathlib.Core.Path.{◌≡◌, refl, ◌∙◌}
 use native.Mathlib.Omega.{arith}
 use lib.ListN.{length}
