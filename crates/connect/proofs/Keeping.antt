@@ -45,9 +45,9 @@ module _ (P : Vertices) where
         on = omega (arith, K.on);
       }
 
-  start : (L : Line) (isRoot : Bool) (Q : Vertices) → Kept P Q → Kept P (push_start L isRoot Q)
+  start : (L : Line) (is_root : Bool) (Q : Vertices) → Kept P Q → Kept P (push_start L is_root Q)
   unfolding push_start push_dummies
-  start L isRoot Q K = push _ _ _ _ (push _ _ _ _ (push _ _ _ _ K))
+  start L is_root Q K = push _ _ _ _ (push _ _ _ _ (push _ _ _ _ K))
 
   either-v : (b : Bool) (X Y : Vertices) → Kept P X → Kept P Y → Kept P (cond b X Y)
   either-v true X Y x y = x
@@ -70,20 +70,20 @@ module _ (P : Vertices) where
   nodes L J zero W K = K
   nodes L J (suc k) W K = node L J (suc k) (push_nodes L J k W) (nodes L J k W K)
 
-  wire : (L : Line) (isRoot : Bool) (J : Junction) (W : Wires) → Kept P W.page → Kept P (push_vertices L isRoot J W).page
+  wire : (L : Line) (is_root : Bool) (J : Junction) (W : Wires) → Kept P W.page → Kept P (push_vertices L is_root J W).page
   unfolding push_vertices
-  wire L isRoot J W K = nodes L J (L.count - 1) _ (start L isRoot W.page K)
+  wire L is_root J W K = nodes L J (L.count - 1) _ (start L is_root W.page K)
 
   fallback : (sx sy ex ey : ℕ) (ahead : Bool) (J : Junction) (W : Wires) → Kept P W.page → Kept P (push_fallback sx sy ex ey ahead J W).page
   unfolding push_fallback push_fallback_wire push_bend
   fallback sx sy ex ey ahead J W K =
       push _ _ _ _ (either-v (bent (corner_x ahead sx ex) (corner_y ahead sy ey) sx sy ex ey) _ _ (push _ _ _ _ (push _ _ _ _ K)) (push _ _ _ _ K))
 
-  pub routed : (L : Line) (sx sy ex ey : ℕ) (ahead isRoot : Bool) (J : Junction) (W : Wires) → Kept P W.page → Kept P (route_wire L sx sy ex ey ahead isRoot J W).wires.page
+  pub routed : (L : Line) (sx sy ex ey : ℕ) (ahead is_root : Bool) (J : Junction) (W : Wires) → Kept P W.page → Kept P (route_wire L sx sy ex ey ahead is_root J W).wires.page
   unfolding route_wire line_wire fallback_wire
-  routed L sx sy ex ey ahead isRoot J W K =
+  routed L sx sy ex ey ahead is_root J W K =
       either-t (eqb L.count 0) _ _ (either-t (fits W.page.n (fallback_vertices sx sy ex ey ahead) W.net.m 2) (tried 0 (push_fallback sx sy ex ey ahead J W)) (tried 15 W) (fallback sx sy ex ey ahead J W K) K)
-      (either-t (eqb L.count 1) (tried 14 W) _ K (either-t (fits W.page.n (line_vertices L) W.net.m (line_ends L)) (tried 0 (push_vertices L isRoot J W)) (tried 15 W) (wire L isRoot J W K) K))
+      (either-t (eqb L.count 1) (tried 14 W) _ K (either-t (fits W.page.n (line_vertices L) W.net.m (line_ends L)) (tried 0 (push_vertices L is_root J W)) (tried 15 W) (wire L is_root J W K) K))
 
 -- the same of a page's junctions
 pub record Joins (R : List ℕ) (j : ℕ) (R' : List ℕ) (j' : ℕ) : Type 0 where

@@ -103,21 +103,21 @@ unfolding push_nodes
 nodes L J zero W = ap (λ (E : Ends). wires W.page E) (again W.net)
 nodes L J (suc k) W = through clear (push_node L J (suc k)) (node L J (suc k)) _ _ (nodes L J k W)
 
-line : (L : Line) (isRoot : Bool) (J : Junction) (W : Wires) → clear (push_vertices L isRoot J W) ≡ clear (push_vertices L isRoot J (clear W))
+line : (L : Line) (is_root : Bool) (J : Junction) (W : Wires) → clear (push_vertices L is_root J W) ≡ clear (push_vertices L is_root J (clear W))
 unfolding push_vertices
-line L isRoot J W =
-    through clear (push_nodes L J (L.count - 1)) (nodes L J (L.count - 1)) _ _ (ap (λ (E : Ends). wires (push_start L isRoot W.page) E) (start-ends L W.page.n W.net))
+line L is_root J W =
+    through clear (push_nodes L J (L.count - 1)) (nodes L J (L.count - 1)) _ _ (ap (λ (E : Ends). wires (push_start L is_root W.page) E) (start-ends L W.page.n W.net))
 
 fallback : (sx sy ex ey : ℕ) (ahead : Bool) (J : Junction) (W : Wires) → clear (push_fallback sx sy ex ey ahead J W) ≡ clear (push_fallback sx sy ex ey ahead J (clear W))
 unfolding push_fallback
 fallback sx sy ex ey ahead J W =
     ap (λ (E : Ends). wires (push_fallback_wire sx sy ex ey ahead J W.page) E) (through bare (push_end _ _ _ _) (push _ _ _ _) _ _ (push _ _ _ _ W.net))
 
-routed : (L : Line) (sx sy ex ey : ℕ) (ahead isRoot : Bool) (J : Junction) (W : Wires) → told (route_wire L sx sy ex ey ahead isRoot J W) ≡ told (route_wire L sx sy ex ey ahead isRoot J (clear W))
+routed : (L : Line) (sx sy ex ey : ℕ) (ahead is_root : Bool) (J : Junction) (W : Wires) → told (route_wire L sx sy ex ey ahead is_root J W) ≡ told (route_wire L sx sy ex ey ahead is_root J (clear W))
 unfolding route_wire line_wire fallback_wire
-routed L sx sy ex ey ahead isRoot J W =
+routed L sx sy ex ey ahead is_root J W =
     either told (eqb L.count 0) _ _ _ _ (either told (fits W.page.n (fallback_vertices sx sy ex ey ahead) W.net.m 2) (tried 0 (push_fallback sx sy ex ey ahead J W)) (tried 15 W) (tried 0 (push_fallback sx sy ex ey ahead J (clear W))) (tried 15 (clear W)) (ap (λ (X : Wires). tried 0 X) (fallback sx sy ex ey ahead J W)) (same 15))
-    (either told (eqb L.count 1) (tried 14 W) _ (tried 14 (clear W)) _ (same 14) (either told (fits W.page.n (line_vertices L) W.net.m (line_ends L)) (tried 0 (push_vertices L isRoot J W)) (tried 15 W) (tried 0 (push_vertices L isRoot J (clear W))) (tried 15 (clear W)) (ap (λ (X : Wires). tried 0 X) (line L isRoot J W)) (same 15)))
+    (either told (eqb L.count 1) (tried 14 W) _ (tried 14 (clear W)) _ (same 14) (either told (fits W.page.n (line_vertices L) W.net.m (line_ends L)) (tried 0 (push_vertices L is_root J W)) (tried 15 W) (tried 0 (push_vertices L is_root J (clear W))) (tried 15 (clear W)) (ap (λ (X : Wires). tried 0 X) (line L is_root J W)) (same 15)))
   where
     same : (k : ℕ) → told (tried k W) ≡ told (tried k (clear W))
     same k = ap (λ (E : Ends). tried k (wires W.page E)) (again W.net)

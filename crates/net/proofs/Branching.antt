@@ -20,9 +20,9 @@ use Rattle.net.specs.Nets.{Branched, branched, along, branch_line, branch_from, 
 -- ---- bounds
 
 -- a wire that was made leaves an end or more
-pub some-ends : (L : Line) (sx sy ex ey : ℕ) (ahead isRoot : Bool) (J : Junction) (W : Wires) → (route_wire L sx sy ex ey ahead isRoot J W).number ≡ 0 → 0 < (route_wire L sx sy ex ey ahead isRoot J W).wires.net.m
+pub some-ends : (L : Line) (sx sy ex ey : ℕ) (ahead is_root : Bool) (J : Junction) (W : Wires) → (route_wire L sx sy ex ey ahead is_root J W).number ≡ 0 → 0 < (route_wire L sx sy ex ey ahead is_root J W).wires.net.m
 unfolding route_wire line_wire fallback_wire
-some-ends L sx sy ex ey ahead isRoot J W = by (eqb L.count 0) refl
+some-ends L sx sy ex ey ahead is_root J W = by (eqb L.count 0) refl
   where
     fit : (b : Bool) (X : Wires) → 0 < X.net.m → (cond b (tried 0 X) (tried 15 W)).number ≡ 0 → 0 < (cond b (tried 0 X) (tried 15 W)).wires.net.m
     fit true X h e = h
@@ -35,26 +35,26 @@ some-ends L sx sy ex ey ahead isRoot J W = by (eqb L.count 0) refl
     some : (k : ℕ) → (k ≡ 0 → ⊥) → 0 < k
     some k h = omega arith
 
-    by : (b : Bool) → eqb L.count 0 ≡ b → (cond b (cond (fits W.page.n (fallback_vertices sx sy ex ey ahead) W.net.m 2) (tried 0 (push_fallback sx sy ex ey ahead J W)) (tried 15 W)) (cond (eqb L.count 1) (tried 14 W) (cond (fits W.page.n (line_vertices L) W.net.m (line_ends L)) (tried 0 (push_vertices L isRoot J W)) (tried 15 W)))).number ≡ 0
-        → 0 < (cond b (cond (fits W.page.n (fallback_vertices sx sy ex ey ahead) W.net.m 2) (tried 0 (push_fallback sx sy ex ey ahead J W)) (tried 15 W)) (cond (eqb L.count 1) (tried 14 W) (cond (fits W.page.n (line_vertices L) W.net.m (line_ends L)) (tried 0 (push_vertices L isRoot J W)) (tried 15 W)))).wires.net.m
+    by : (b : Bool) → eqb L.count 0 ≡ b → (cond b (cond (fits W.page.n (fallback_vertices sx sy ex ey ahead) W.net.m 2) (tried 0 (push_fallback sx sy ex ey ahead J W)) (tried 15 W)) (cond (eqb L.count 1) (tried 14 W) (cond (fits W.page.n (line_vertices L) W.net.m (line_ends L)) (tried 0 (push_vertices L is_root J W)) (tried 15 W)))).number ≡ 0
+        → 0 < (cond b (cond (fits W.page.n (fallback_vertices sx sy ex ey ahead) W.net.m 2) (tried 0 (push_fallback sx sy ex ey ahead J W)) (tried 15 W)) (cond (eqb L.count 1) (tried 14 W) (cond (fits W.page.n (line_vertices L) W.net.m (line_ends L)) (tried 0 (push_vertices L is_root J W)) (tried 15 W)))).wires.net.m
     by true e = fit (fits W.page.n (fallback_vertices sx sy ex ey ahead) W.net.m 2) (push_fallback sx sy ex ey ahead J W) (omega (arith, fallback-m sx sy ex ey ahead J W))
     by false e =
-        one (eqb L.count 1) (cond (fits W.page.n (line_vertices L) W.net.m (line_ends L)) (tried 0 (push_vertices L isRoot J W)) (tried 15 W)) (fit (fits W.page.n (line_vertices L) W.net.m (line_ends L)) (push_vertices L isRoot J W) (omega (arith, line-m L isRoot J W (some L.count (eqb-false _ _ e)))))
+        one (eqb L.count 1) (cond (fits W.page.n (line_vertices L) W.net.m (line_ends L)) (tried 0 (push_vertices L is_root J W)) (tried 15 W)) (fit (fits W.page.n (line_vertices L) W.net.m (line_ends L)) (push_vertices L is_root J W) (omega (arith, line-m L is_root J W (some L.count (eqb-false _ _ e)))))
 
 abbrev pub Bounded : Branched → Type 0
 Bounded S = Bounds S.wires.page.n S.wires.net.m S.j
 
-pub wire-bounds : (L : Line) (sx sy ex ey : ℕ) (ahead isRoot : Bool) (J : Junction) (W : Wires) (j : ℕ) → W.page.n ≤ 512 → W.net.m ≤ 4096 → 2 * j ≤ W.page.n
-    → (route_wire L sx sy ex ey ahead isRoot J W).number ≡ 0 → Bounds (route_wire L sx sy ex ey ahead isRoot J W).wires.page.n (route_wire L sx sy ex ey ahead isRoot J W).wires.net.m j
-wire-bounds L sx sy ex ey ahead isRoot J W j n-le m-le h z =
-    let k = limited W n-le m-le L sx sy ex ey ahead isRoot J in
-    record { n_most = k.vertices_most; m_some = some-ends L sx sy ex ey ahead isRoot J W z; m_most = k.ends_most; joined = omega (arith, k.two_more z) }
+pub wire-bounds : (L : Line) (sx sy ex ey : ℕ) (ahead is_root : Bool) (J : Junction) (W : Wires) (j : ℕ) → W.page.n ≤ 512 → W.net.m ≤ 4096 → 2 * j ≤ W.page.n
+    → (route_wire L sx sy ex ey ahead is_root J W).number ≡ 0 → Bounds (route_wire L sx sy ex ey ahead is_root J W).wires.page.n (route_wire L sx sy ex ey ahead is_root J W).wires.net.m j
+wire-bounds L sx sy ex ey ahead is_root J W j n-le m-le h z =
+    let k = limited W n-le m-le L sx sy ex ey ahead is_root J in
+    record { n_most = k.vertices_most; m_some = some-ends L sx sy ex ey ahead is_root J W z; m_most = k.ends_most; joined = omega (arith, k.two_more z) }
 
 -- the root wire
-pub root-bounds : (L : Line) (sx sy ex ey : ℕ) (ahead isRoot : Bool) (J : Junction) (W : Wires) (j : ℕ) (T : Tried) → T ≡ route_wire L sx sy ex ey ahead isRoot J W → W.page.n ≤ 512 → W.net.m ≤ 4096
+pub root-bounds : (L : Line) (sx sy ex ey : ℕ) (ahead is_root : Bool) (J : Junction) (W : Wires) (j : ℕ) (T : Tried) → T ≡ route_wire L sx sy ex ey ahead is_root J W → W.page.n ≤ 512 → W.net.m ≤ 4096
     → 2 * j ≤ W.page.n → T.number ≡ 0 → Bounds T.wires.page.n T.wires.net.m j
-root-bounds L sx sy ex ey ahead isRoot J W j T t n-le m-le h z =
-    subst (λ (X : Tried). X.number ≡ 0 → Bounds X.wires.page.n X.wires.net.m j) (sym t) (wire-bounds L sx sy ex ey ahead isRoot J W j n-le m-le h) z
+root-bounds L sx sy ex ey ahead is_root J W j T t n-le m-le h z =
+    subst (λ (X : Tried). X.number ≡ 0 → Bounds X.wires.page.n X.wires.net.m j) (sym t) (wire-bounds L sx sy ex ey ahead is_root J W j n-le m-le h) z
 
 branch-bounds : (L : Line) (sx sy : ℕ) (ahead : Bool) (W : Wires) (j : ℕ) → W.page.n ≤ 512 → W.net.m ≤ 4096 → 2 * j ≤ W.page.n
     → (route_branch L sx sy ahead W).number ≡ 0 → Bounds (route_branch L sx sy ahead W).wires.page.n (route_branch L sx sy ahead W).wires.net.m j

@@ -21,7 +21,7 @@ use Rattle.path_finding.proofs.Between.{few-lent, between-below}
 use Rattle.path_finding.proofs.Theorems.{right}
 use Rattle.wire.specs.Lines.{Line, line_of, PathOn}
 use Rattle.vertex.specs.declared.Junction.{Junction}
-use Rattle.wire.specs.Wires.{ends as endsOf, Wires}
+use Rattle.wire.specs.Wires.{ends as row_ends, Wires}
 use Rattle.routing.specs.Branches.{Tried, route_wire, route_branch, join_branch}
 use Rattle.net.specs.Lent.{Searching}
 use Rattle.net.specs.Nets.{found_line, end_word, branch_path, branch_line}
@@ -70,7 +70,7 @@ parts-ended k l m a b h =
 pub root-path : (G : Graph) (x y tx ty : ℕ) (ex ey p : List ℕ) → ex ≡ tx ∷ [] → ey ≡ ty ∷ [] → p ≡ line_between G x y ex ey → p ≡ line_between G x y (tx ∷ []) (ty ∷ [])
 root-path G x y tx ty ex ey p a b e = rw (← a, ← b) e
 
-pub branch-path : (G : Graph) (x y : ℕ) (E : List ℕ) (m : ℕ) (ex ey p : List ℕ) → ex ≡ table (end_word 0 E) m → ey ≡ table (end_word 1 E) m → p ≡ line_between G x y ex ey → p ≡ branch_path G x y (endsOf E m)
+pub branch-path : (G : Graph) (x y : ℕ) (E : List ℕ) (m : ℕ) (ex ey p : List ℕ) → ex ≡ table (end_word 0 E) m → ey ≡ table (end_word 1 E) m → p ≡ line_between G x y ex ey → p ≡ branch_path G x y (row_ends E m)
 branch-path G x y E m ex ey p a b e = rw (← a, ← b) e
 
 -- wires can be laid along it
@@ -88,7 +88,7 @@ pub line-found : (G : Graph) (x y : ℕ) (exs eys p : List ℕ) → p ≡ line_b
 unfolding found_line
 line-found G x y exs eys p e = rw e
 
-pub branch-found : (G : Graph) (x y : ℕ) (E : List ℕ) (m : ℕ) (p : List ℕ) → p ≡ branch_path G x y (endsOf E m) → line_of G p ≡ branch_line G x y (endsOf E m)
+pub branch-found : (G : Graph) (x y : ℕ) (E : List ℕ) (m : ℕ) (p : List ℕ) → p ≡ branch_path G x y (row_ends E m) → line_of G p ≡ branch_line G x y (row_ends E m)
 unfolding branch_line
 branch-found G x y E m p e = line-found G x y _ _ p e
 

@@ -33,20 +33,20 @@ not-straight kinds ways i h = rw (ne_eqb _ _ h)
 
 -- the wire's start, its dummies, and their ends
 abbrev started : Line → Bool → Wires → Wires
-started L isRoot O = wires (push_start L isRoot O.page) (push_start_ends L O.page.n O.net)
+started L is_root O = wires (push_start L is_root O.page) (push_start_ends L O.page.n O.net)
 
-module _ (L : Line) (isRoot : Bool) (J : Junction) (k : ℕ) (O : Wires) where
-  vertices-then : (push_nodes L J k (started L isRoot O)).page.n ≡ O.page.n + 3 + kept L.kinds L.ways k
+module _ (L : Line) (is_root : Bool) (J : Junction) (k : ℕ) (O : Wires) where
+  vertices-then : (push_nodes L J k (started L is_root O)).page.n ≡ O.page.n + 3 + kept L.kinds L.ways k
   unfolding push_start push_dummies push_vertex
-  vertices-then = omega (arith, nodes-n L J k (started L isRoot O))
+  vertices-then = omega (arith, nodes-n L J k (started L is_root O))
 
-  ends-then : (push_nodes L J k (started L isRoot O)).net.m ≡ O.net.m + 2 + k
+  ends-then : (push_nodes L J k (started L is_root O)).net.m ≡ O.net.m + 2 + k
   unfolding push_start_ends push_end
-  ends-then = omega (arith, nodes-m L J k (started L isRoot O))
+  ends-then = omega (arith, nodes-m L J k (started L is_root O))
 
 module _ (Spot : ℕ → ℕ → Type 0) (lo hi : ℕ) (range : (x y : ℕ) → Spot x y → In lo hi x y) (O : Wires) (long : Long O)
     (near_x : Within lo hi O.page.n O.page.x) (near_y : Within lo hi O.page.n O.page.y) where
-  module _ (L : Line) (D : Drawn Spot L) (isRoot : Bool) (J : Junction) (two : 2 ≤ L.count)
+  module _ (L : Line) (D : Drawn Spot L) (is_root : Bool) (J : Junction) (two : 2 ≤ L.count)
       (n-fits : O.page.n + line_vertices L ≤ 512) (m-fits : O.net.m + line_ends L ≤ 4096) where
     abbrev sx : ℕ
     sx = get_or L.x 0 0
@@ -57,7 +57,7 @@ module _ (Spot : ℕ → ℕ → Type 0) (lo hi : ℕ) (range : (x y : ℕ) → 
     abbrev Grows : Wires → Type 0
     Grows W = Growing Spot lo hi range O sx sy W
 
-    line-start : Grows (started L isRoot O)
+    line-start : Grows (started L is_root O)
     unfolding push_start push_dummies push_start_ends push_vertex push_end
     line-start =
         let a = D.spots 0 (omega arith) in
@@ -66,27 +66,27 @@ module _ (Spot : ℕ → ℕ → Type 0) (lo hi : ℕ) (range : (x y : ℕ) → 
         let dx = dummy-in lo hi sx (get_or L.x 1 0) i.x_low i.x_high e.x_low e.x_high in
         let dy = dummy-in lo hi sy (get_or L.y 1 0) i.y_low i.y_high e.y_low e.y_high in
         let d : In lo hi (dummy sx (get_or L.x 1 0)) (dummy sy (get_or L.y 1 0)) = record { x_low = dx.0; x_high = dx.1; y_low = dy.0; y_high = dy.1 } in
-        let G = grow-start Spot lo hi range O sx sy isRoot a (omega arith) (omega arith) long near_x near_y in
+        let G = grow-start Spot lo hi range O sx sy is_root a (omega arith) (omega arith) long near_x near_y in
         let G = grow-vertex Spot lo hi range O _ _ Dummy d refl refl (omega arith) G in
         let G = grow-vertex Spot lo hi range O _ _ Dummy d refl refl (omega arith) G in
         grow-end Spot lo hi range O sx sy (O.page.n + 2) CORNER a (omega arith) (omega arith) (omega arith) (inl refl) G
 
     -- what the first k nodes leave room for
     module _ (k : ℕ) (h : k + 1 < L.count) where
-      end-room : (push_nodes L J k (started L isRoot O)).net.m < 4096
-      end-room = omega (arith, ends-then L isRoot J k O)
+      end-room : (push_nodes L J k (started L is_root O)).net.m < 4096
+      end-room = omega (arith, ends-then L is_root J k O)
 
-      vertex-room : straight L.kinds L.ways (suc k) ≡ false → (push_nodes L J k (started L isRoot O)).page.n < 512
+      vertex-room : straight L.kinds L.ways (suc k) ≡ false → (push_nodes L J k (started L is_root O)).page.n < 512
       vertex-room t =
           let t : straight L.kinds L.ways (k + 1) ≡ false = rw add-one t in
-          omega (arith, vertices-then L isRoot J k O, kept-room L.kinds L.ways L.count k h t)
+          omega (arith, vertices-then L is_root J k O, kept-room L.kinds L.ways L.count k h t)
 
-    node : (k : ℕ) → k + 2 < L.count → Grows (push_nodes L J k (started L isRoot O)) → Grows (push_node L J (suc k) (push_nodes L J k (started L isRoot O)))
+    node : (k : ℕ) → k + 2 < L.count → Grows (push_nodes L J k (started L is_root O)) → Grows (push_node L J (suc k) (push_nodes L J k (started L is_root O)))
     unfolding push_node push_corner corner_kind push_vertex
     node k h G = by (straight L.kinds L.ways (suc k)) refl
       where
         W : Wires
-        W = push_nodes L J k (started L isRoot O)
+        W = push_nodes L J k (started L is_root O)
 
         px : ℕ
         px = get_or L.x (suc k) 0
@@ -108,12 +108,12 @@ module _ (Spot : ℕ → ℕ → Type 0) (lo hi : ℕ) (range : (x y : ℕ) → 
             (grow-end Spot lo hi range O px py W.page.n CORNER here (omega arith) (omega arith) (end-room k (omega arith)) (inl refl)
             (grow-vertex Spot lo hi range O px py Normal (range px py here) refl refl (vertex-room k (omega arith) t) G))
 
-    nodes : (k : ℕ) → k + 1 < L.count → Grows (push_nodes L J k (started L isRoot O))
+    nodes : (k : ℕ) → k + 1 < L.count → Grows (push_nodes L J k (started L is_root O))
     unfolding push_nodes
     nodes zero h = line-start
     nodes (suc k) h = node k (omega arith) (nodes k (omega arith))
 
-    ends_at : (k : ℕ) → L.count - 1 ≡ suc k → Wire Spot lo hi O (push_nodes L J (suc k) (started L isRoot O)) sx sy (get_or L.x (suc k) 0) (get_or L.y (suc k) 0) J
+    ends_at : (k : ℕ) → L.count - 1 ≡ suc k → Wire Spot lo hi O (push_nodes L J (suc k) (started L is_root O)) sx sy (get_or L.x (suc k) 0) (get_or L.y (suc k) 0) J
     unfolding push_nodes push_node push_corner corner_kind
     ends_at k e =
         let t : straight L.kinds L.ways (suc k) ≡ false = rw (← e) (not-straight L.kinds L.ways (L.count - 1) (D.last (omega arith))) in
@@ -121,11 +121,11 @@ module _ (Spot : ℕ → ℕ → Type 0) (lo hi : ℕ) (range : (x y : ℕ) → 
         (grow_last Spot lo hi range O (get_or L.x (suc k) 0) (get_or L.y (suc k) 0) J (D.spots (suc k) (omega arith)) (vertex-room k (omega arith) t) (end-room k (omega arith)) (nodes k (omega arith)))
 
     -- a wire along a line of two nodes or more runs from its first node to its last
-    pub line-wire : Wire Spot lo hi O (push_vertices L isRoot J O) sx sy (get_or L.x (L.count - 1) 0) (get_or L.y (L.count - 1) 0) J
+    pub line-wire : Wire Spot lo hi O (push_vertices L is_root J O) sx sy (get_or L.x (L.count - 1) 0) (get_or L.y (L.count - 1) 0) J
     unfolding push_vertices
     line-wire = by (L.count - 1) refl
       where
-        by : (k : ℕ) → L.count - 1 ≡ k → Wire Spot lo hi O (push_nodes L J k (started L isRoot O)) sx sy (get_or L.x k 0) (get_or L.y k 0) J
+        by : (k : ℕ) → L.count - 1 ≡ k → Wire Spot lo hi O (push_nodes L J k (started L is_root O)) sx sy (get_or L.x k 0) (get_or L.y k 0) J
         by zero e = absurd (omega arith)
         by (suc k) e = ends_at k e
 

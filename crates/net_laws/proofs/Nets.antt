@@ -32,7 +32,7 @@ use Rattle.net_laws.proofs.Rows.{Rows, rows-joined, rows-ended, rows-lettered, r
 
 module _ (Spot : ℕ → ℕ → Type 0) (lo hi : ℕ) (range : (x y : ℕ) → Spot x y → In lo hi x y) (W : Wires) (long : Long W)
     (near_x : Within lo hi W.page.n W.page.x) (near_y : Within lo hi W.page.n W.page.y) where
-  module _ (L : Line) (D : Drawn Spot L) (sx sy ex ey : ℕ) (s : Spot sx sy) (e : Spot ex ey) (leads : Leads L sx sy ex ey) (along isRoot : Bool) (J : Junction) where
+  module _ (L : Line) (D : Drawn Spot L) (sx sy ex ey : ℕ) (s : Spot sx sy) (e : Spot ex ey) (leads : Leads L sx sy ex ey) (along is_root : Bool) (J : Junction) where
     abbrev Made : Wires → Type 0
     Made X = Wire Spot lo hi W X sx sy ex ey J
 
@@ -47,7 +47,7 @@ module _ (Spot : ℕ → ℕ → Type 0) (lo hi : ℕ) (range : (x y : ℕ) → 
             (fits-ends W.page.n (fallback_vertices sx sy ex ey along) W.net.m 2 true q refl)
         by false q z = absurd (omega arith)
 
-    line_made : 0 < L.count → (line_wire L isRoot J W).number ≡ 0 → Made (line_wire L isRoot J W).wires
+    line_made : 0 < L.count → (line_wire L is_root J W).number ≡ 0 → Made (line_wire L is_root J W).wires
     unfolding line_wire
     line_made h = one (eqb L.count 1) refl
       where
@@ -57,28 +57,28 @@ module _ (Spot : ℕ → ℕ → Type 0) (lo hi : ℕ) (range : (x y : ℕ) → 
         m : ℕ
         m = line_ends L
 
-        by : (L.count ≡ 1 → ⊥) → (b : Bool) → b ≡ fits W.page.n v W.net.m m → (cond b (tried 0 (push_vertices L isRoot J W)) (tried 15 W)).number ≡ 0
-            → Made (cond b (tried 0 (push_vertices L isRoot J W)) (tried 15 W)).wires
+        by : (L.count ≡ 1 → ⊥) → (b : Bool) → b ≡ fits W.page.n v W.net.m m → (cond b (tried 0 (push_vertices L is_root J W)) (tried 15 W)).number ≡ 0
+            → Made (cond b (tried 0 (push_vertices L is_root J W)) (tried 15 W)).wires
         by ne true q z =
             rw (← leads.from_x h, ← leads.from_y h, ← leads.to_x h, ← leads.to_y h)
-            (line-wire Spot lo hi range W long near_x near_y L D isRoot J (omega arith) (fits-vertices W.page.n v W.net.m m true q refl) (fits-ends W.page.n v W.net.m m true q refl))
+            (line-wire Spot lo hi range W long near_x near_y L D is_root J (omega arith) (fits-vertices W.page.n v W.net.m m true q refl) (fits-ends W.page.n v W.net.m m true q refl))
         by ne false q z = absurd (omega arith)
 
-        one : (b : Bool) → eqb L.count 1 ≡ b → (cond b (tried 14 W) (cond (fits W.page.n v W.net.m m) (tried 0 (push_vertices L isRoot J W)) (tried 15 W))).number ≡ 0
-            → Made (cond b (tried 14 W) (cond (fits W.page.n v W.net.m m) (tried 0 (push_vertices L isRoot J W)) (tried 15 W))).wires
+        one : (b : Bool) → eqb L.count 1 ≡ b → (cond b (tried 14 W) (cond (fits W.page.n v W.net.m m) (tried 0 (push_vertices L is_root J W)) (tried 15 W))).number ≡ 0
+            → Made (cond b (tried 14 W) (cond (fits W.page.n v W.net.m m) (tried 0 (push_vertices L is_root J W)) (tried 15 W))).wires
         one true t z = absurd (omega arith)
         one false t z = by (eqb-false _ _ t) (fits W.page.n v W.net.m m) refl z
 
     -- a wire that was made runs from s to e
-    pub route-made : (route_wire L sx sy ex ey along isRoot J W).number ≡ 0 → Made (route_wire L sx sy ex ey along isRoot J W).wires
+    pub route-made : (route_wire L sx sy ex ey along is_root J W).number ≡ 0 → Made (route_wire L sx sy ex ey along is_root J W).wires
     unfolding route_wire
     route-made = by (eqb L.count 0) refl
       where
         some : (k : ℕ) → (k ≡ 0 → ⊥) → 0 < k
         some k h = omega arith
 
-        by : (b : Bool) → eqb L.count 0 ≡ b → (cond b (fallback_wire sx sy ex ey along J W) (line_wire L isRoot J W)).number ≡ 0
-            → Made (cond b (fallback_wire sx sy ex ey along J W) (line_wire L isRoot J W)).wires
+        by : (b : Bool) → eqb L.count 0 ≡ b → (cond b (fallback_wire sx sy ex ey along J W) (line_wire L is_root J W)).number ≡ 0
+            → Made (cond b (fallback_wire sx sy ex ey along J W) (line_wire L is_root J W)).wires
         by true t z = fallback-made z
         by false t z = line_made (some L.count (eqb-false _ _ t)) z
 
@@ -227,21 +227,21 @@ reaches-leads L sx sy E r =
 module _ (Spot : ℕ → ℕ → Type 0) (lo hi : ℕ) (range : (x y : ℕ) → Spot x y → In lo hi x y) (O : Vertices) (Q : List ℕ) (j₀ : ℕ) (W : Wires) (R : List ℕ) (j : ℕ)
     (N : Net Spot lo hi O Q j₀ W R j) where
   -- the root wire, or any wire that joins nothing
-  module _ (L : Line) (D : Drawn Spot L) (sx sy ex ey : ℕ) (s : Spot sx sy) (e : Spot ex ey) (leads : Leads L sx sy ex ey) (along isRoot : Bool) (J : Junction) (few : j ≤ 256)
-      (z : (route_wire L sx sy ex ey along isRoot J W).number ≡ 0) where
-    wire-made : Wire Spot lo hi W (route_wire L sx sy ex ey along isRoot J W).wires sx sy ex ey J
-    wire-made = route-made Spot lo hi range W N.long N.page.near_x N.page.near_y L D sx sy ex ey s e leads along isRoot J z
+  module _ (L : Line) (D : Drawn Spot L) (sx sy ex ey : ℕ) (s : Spot sx sy) (e : Spot ex ey) (leads : Leads L sx sy ex ey) (along is_root : Bool) (J : Junction) (few : j ≤ 256)
+      (z : (route_wire L sx sy ex ey along is_root J W).number ≡ 0) where
+    wire-made : Wire Spot lo hi W (route_wire L sx sy ex ey along is_root J W).wires sx sy ex ey J
+    wire-made = route-made Spot lo hi range W N.long N.page.near_x N.page.near_y L D sx sy ex ey s e leads along is_root J z
 
-    pub wire-laid : Laid W.page (route_wire L sx sy ex ey along isRoot J W).wires.page sx sy ex ey J
+    pub wire-laid : Laid W.page (route_wire L sx sy ex ey along is_root J W).wires.page sx sy ex ey J
     wire-laid = wire-made.laid
 
-    pub wire-some : 0 < (route_wire L sx sy ex ey along isRoot J W).wires.net.m
+    pub wire-some : 0 < (route_wire L sx sy ex ey along is_root J W).wires.net.m
     wire-some = omega (arith, wire-made.some)
 
-    pub wire-net : Net Spot lo hi O Q j₀ (route_wire L sx sy ex ey along isRoot J W).wires R j
+    pub wire-net : Net Spot lo hi O Q j₀ (route_wire L sx sy ex ey along is_root J W).wires R j
     wire-net =
-        let l = limited W N.vertices_most N.ends_most L sx sy ex ey along isRoot J in
-        net-wire Spot lo hi O Q j₀ W R j N few (route_wire L sx sy ex ey along isRoot J W).wires sx sy ex ey J wire-made l.vertices_most l.ends_most
+        let l = limited W N.vertices_most N.ends_most L sx sy ex ey along is_root J in
+        net-wire Spot lo hi O Q j₀ W R j N few (route_wire L sx sy ex ey along is_root J W).wires sx sy ex ey J wire-made l.vertices_most l.ends_most
 
   -- a branch, with its junction
   module _ (L : Line) (D : Drawn Spot L) (sx sy : ℕ) (s : Spot sx sy) (reach : Reaches L sx sy W.net) (along : Bool) (some : 0 < W.net.m) (few : j < 256)

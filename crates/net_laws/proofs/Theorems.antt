@@ -16,7 +16,7 @@ pub nearest-end : NearestEnd
 nearest-end E px py m h = nearest-first E px py m h
 
 pub a-line : LineWire
-a-line Spot lo hi O S L D isRoot J two n m = line-wire Spot lo hi S.range O S.long S.near_x S.near_y L D isRoot J two n m
+a-line Spot lo hi O S L D is_root J two n m = line-wire Spot lo hi S.range O S.long S.near_x S.near_y L D is_root J two n m
 
 pub a-fallback : FallbackWire
 a-fallback Spot lo hi O S sx sy ex ey s e along J n m = fallback-wire Spot lo hi S.range O S.long S.near_x S.near_y sx sy ex ey s e along J n m
@@ -25,7 +25,7 @@ pub wired : WiredOn
 wired O P sx sy ex ey J L W = wired-on L W
 
 pub a-root : RootWire
-a-root Spot lo hi range O Q j₀ W R j N L D sx sy ex ey s e leads along isRoot J few z = wire-net Spot lo hi range O Q j₀ W R j N L D sx sy ex ey s e leads along isRoot J few z
+a-root Spot lo hi range O Q j₀ W R j N L D sx sy ex ey s e leads along is_root J few z = wire-net Spot lo hi range O Q j₀ W R j N L D sx sy ex ey s e leads along is_root J few z
 
 pub a-branch : Branch
 a-branch Spot lo hi range O Q j₀ W R j N L D sx sy s reach along some few z = branch-net Spot lo hi range O Q j₀ W R j N L D sx sy s reach along some few z

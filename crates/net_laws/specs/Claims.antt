@@ -33,9 +33,9 @@ pub record Start (Spot : ℕ → ℕ → Type 0) (lo hi : ℕ) (O : Wires) : Typ
 
 abbrev pub LineWire : Type 1
 LineWire =
-    (Spot : ℕ → ℕ → Type 0) (lo hi : ℕ) (O : Wires) → Start Spot lo hi O → (L : Line) → Drawn Spot L → (isRoot : Bool) (J : Junction) → 2 ≤ L.count
+    (Spot : ℕ → ℕ → Type 0) (lo hi : ℕ) (O : Wires) → Start Spot lo hi O → (L : Line) → Drawn Spot L → (is_root : Bool) (J : Junction) → 2 ≤ L.count
     → O.page.n + line_vertices L ≤ 512 → O.net.m + line_ends L ≤ 4096
-    → Wire Spot lo hi O (push_vertices L isRoot J O) (get_or L.x 0 0) (get_or L.y 0 0) (get_or L.x (L.count - 1) 0) (get_or L.y (L.count - 1) 0) J
+    → Wire Spot lo hi O (push_vertices L is_root J O) (get_or L.x 0 0) (get_or L.y 0 0) (get_or L.x (L.count - 1) 0) (get_or L.y (L.count - 1) 0) J
 
 abbrev pub FallbackWire : Type 1
 FallbackWire =
@@ -51,8 +51,8 @@ WiredOn = (O P : Vertices) (sx sy ex ey : ℕ) (J : Junction) → Laid O P sx sy
 abbrev pub RootWire : Type 1
 RootWire =
     (Spot : ℕ → ℕ → Type 0) (lo hi : ℕ) → ((x y : ℕ) → Spot x y → In lo hi x y) → (O : Vertices) (Q : List ℕ) (j₀ : ℕ) (W : Wires) (R : List ℕ) (j : ℕ) → Net Spot lo hi O Q j₀ W R j
-    → (L : Line) → Drawn Spot L → (sx sy ex ey : ℕ) → Spot sx sy → Spot ex ey → Leads L sx sy ex ey → (along isRoot : Bool) (J : Junction) → j ≤ 256
-    → (route_wire L sx sy ex ey along isRoot J W).number ≡ 0 → Net Spot lo hi O Q j₀ (route_wire L sx sy ex ey along isRoot J W).wires R j
+    → (L : Line) → Drawn Spot L → (sx sy ex ey : ℕ) → Spot sx sy → Spot ex ey → Leads L sx sy ex ey → (along is_root : Bool) (J : Junction) → j ≤ 256
+    → (route_wire L sx sy ex ey along is_root J W).number ≡ 0 → Net Spot lo hi O Q j₀ (route_wire L sx sy ex ey along is_root J W).wires R j
 
 -- a branch adds one junction
 abbrev pub Branch : Type 1

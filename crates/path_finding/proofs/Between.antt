@@ -57,19 +57,19 @@ module _ (G : Graph) (x y : ℕ) (exs eys path : List ℕ) (s k : ℕ) (at_start
       let h : G.count ≤ start_of G x y = rw (← at_start) l in
       record { number_is = rw (le-ltb _ _ h); nodes_is = rw (le-ltb _ _ h); line_is = rw (le-ltb _ _ h) behind }
 
-  module _ (l : s < G.count) (ok : Bool) (is_Known : ok ≡ known G.xs G.ys G.count exs eys k) where
+  module _ (l : s < G.count) (ok : Bool) (is_known : ok ≡ known G.xs G.ys G.count exs eys k) where
     h : start_of G x y < G.count
     h = rw (← at_start) l
 
     pub no_end : ok ≡ false → Answered G x y exs eys 10 0 path
     unfolding number line_between
     no_end f =
-        let e : ends_known G exs eys ≡ false = rw (← many) (sym is_Known ∙ f) in
+        let e : ends_known G exs eys ≡ false = rw (← many) (sym is_known ∙ f) in
         record { number_is = rw (lt-ltb _ _ h, e); nodes_is = rw (lt-ltb _ _ h, e); line_is = rw (lt-ltb _ _ h, e) behind }
 
     module _ (f : ok ≡ true) (es : List ℕ) (nodes : es ≡ table (node_at G.xs G.ys G.count exs eys) k) where
       e : ends_known G exs eys ≡ true
-      e = rw (← many) (sym is_Known ∙ f)
+      e = rw (← many) (sym is_known ∙ f)
 
       same_line : line G es s ≡ line G (ends_of G exs eys) (start_of G x y)
       same_line = rw (nodes, at_start, many)

@@ -57,12 +57,12 @@ module _ (W : Wires) (H : Held W.page.n W.net) where
   either true S T s t = s
   either false S T s t = t
 
-  pub tried-held : (L : Line) (sx sy ex ey : ℕ) (along isRoot : Bool) (J : Junction)
-      → Held (route_wire L sx sy ex ey along isRoot J W).wires.page.n (route_wire L sx sy ex ey along isRoot J W).wires.net
+  pub tried-held : (L : Line) (sx sy ex ey : ℕ) (along is_root : Bool) (J : Junction)
+      → Held (route_wire L sx sy ex ey along is_root J W).wires.page.n (route_wire L sx sy ex ey along is_root J W).wires.net
   unfolding route_wire fallback_wire line_wire
-  tried-held L sx sy ex ey along isRoot J =
+  tried-held L sx sy ex ey along is_root J =
       either (eqb L.count 0) _ _ (either (fits W.page.n (fallback_vertices sx sy ex ey along) W.net.m 2) (tried 0 (push_fallback sx sy ex ey along J W)) (tried 15 W) (fallback-held sx sy ex ey along J) H)
-      (either (eqb L.count 1) (tried 14 W) _ H (either (fits W.page.n (line_vertices L) W.net.m (line_ends L)) (tried 0 (push_vertices L isRoot J W)) (tried 15 W) (line-held L isRoot J W H).held H))
+      (either (eqb L.count 1) (tried 14 W) _ H (either (fits W.page.n (line_vertices L) W.net.m (line_ends L)) (tried 0 (push_vertices L is_root J W)) (tried 15 W) (line-held L is_root J W H).held H))
 
   -- ---- the junction of a branch
 

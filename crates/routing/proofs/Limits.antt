@@ -14,9 +14,9 @@ use Rattle.routing.specs.Branches.{Tried, tried, Limited, fits, line_wire, fallb
 
 -- ---- how many vertices and ends a wire adds
 
-pub line-n : (L : Line) (isRoot : Bool) (J : Junction) (W : Wires) → (push_vertices L isRoot J W).page.n ≡ W.page.n + line_vertices L
+pub line-n : (L : Line) (is_root : Bool) (J : Junction) (W : Wires) → (push_vertices L is_root J W).page.n ≡ W.page.n + line_vertices L
 unfolding push_vertices push_start push_dummies push_vertex
-line-n L isRoot J W = omega (arith, nodes-n L J (L.count - 1) (wires (push_start L isRoot W.page) (push_start_ends L W.page.n W.net)))
+line-n L is_root J W = omega (arith, nodes-n L J (L.count - 1) (wires (push_start L is_root W.page) (push_start_ends L W.page.n W.net)))
 
 cond-m : (b : Bool) (X Y : Wires) (m : ℕ) → X.net.m ≡ m → Y.net.m ≡ m → (cond b X Y).net.m ≡ m
 cond-m true X Y m x y = x
@@ -31,9 +31,9 @@ unfolding push_nodes
 nodes-m L J zero W = omega arith
 nodes-m L J (suc k) W = omega (arith, node-m L J (suc k) (push_nodes L J k W), nodes-m L J k W)
 
-pub line-m : (L : Line) (isRoot : Bool) (J : Junction) (W : Wires) → 0 < L.count → (push_vertices L isRoot J W).net.m ≡ W.net.m + line_ends L
+pub line-m : (L : Line) (is_root : Bool) (J : Junction) (W : Wires) → 0 < L.count → (push_vertices L is_root J W).net.m ≡ W.net.m + line_ends L
 unfolding push_vertices push_start_ends push_end
-line-m L isRoot J W h = omega (arith, nodes-m L J (L.count - 1) (wires (push_start L isRoot W.page) (push_start_ends L W.page.n W.net)))
+line-m L is_root J W h = omega (arith, nodes-m L J (L.count - 1) (wires (push_start L is_root W.page) (push_start_ends L W.page.n W.net)))
 
 cond-n : (b : Bool) (X Y : Vertices) (n : ℕ) → X.n ≡ n + 2 → Y.n ≡ n + 1 → (cond b X Y).n + 1 ≡ n + cond b 3 2
 cond-n true X Y n x y = omega arith
@@ -62,33 +62,33 @@ module _ (W : Wires) (n-le : W.page.n ≤ 512) (m-le : W.net.m ≤ 4096) where
       record { vertices_most = omega arith; ends_most = omega arith; two_more = λ z. omega arith; as_before = λ h. absurd (h refl) }
   fitted v e X xn xm two false q = refused 15 (λ h. omega arith)
 
-  line-limited : (L : Line) (isRoot : Bool) (J : Junction) → 0 < L.count → Limited W (line_wire L isRoot J W)
+  line-limited : (L : Line) (is_root : Bool) (J : Junction) → 0 < L.count → Limited W (line_wire L is_root J W)
   unfolding line_wire
-  line-limited L isRoot J h = by (eqb L.count 1)
+  line-limited L is_root J h = by (eqb L.count 1)
     where
-      by : (b : Bool) → Limited W (cond b (tried 14 W) (cond (fits W.page.n (line_vertices L) W.net.m (line_ends L)) (tried 0 (push_vertices L isRoot J W)) (tried 15 W)))
+      by : (b : Bool) → Limited W (cond b (tried 14 W) (cond (fits W.page.n (line_vertices L) W.net.m (line_ends L)) (tried 0 (push_vertices L is_root J W)) (tried 15 W)))
       by true = refused 14 (λ e. omega arith)
-      by false = fitted _ _ _ (line-n L isRoot J W) (line-m L isRoot J W h) (omega arith) _ refl
+      by false = fitted _ _ _ (line-n L is_root J W) (line-m L is_root J W h) (omega arith) _ refl
 
   fallback-limited : (sx sy ex ey : ℕ) (along : Bool) (J : Junction) → Limited W (fallback_wire sx sy ex ey along J W)
   unfolding fallback_wire
   fallback-limited sx sy ex ey along J =
       fitted _ _ _ (fallback-n sx sy ex ey along J W) (fallback-m sx sy ex ey along J W) (fallback-least sx sy ex ey along).0 _ refl
 
-  pub limited : (L : Line) (sx sy ex ey : ℕ) (along isRoot : Bool) (J : Junction) → Limited W (route_wire L sx sy ex ey along isRoot J W)
+  pub limited : (L : Line) (sx sy ex ey : ℕ) (along is_root : Bool) (J : Junction) → Limited W (route_wire L sx sy ex ey along is_root J W)
   unfolding route_wire
-  limited L sx sy ex ey along isRoot J = by (eqb L.count 0) refl
+  limited L sx sy ex ey along is_root J = by (eqb L.count 0) refl
     where
-      by : (b : Bool) → eqb L.count 0 ≡ b → Limited W (cond b (fallback_wire sx sy ex ey along J W) (line_wire L isRoot J W))
+      by : (b : Bool) → eqb L.count 0 ≡ b → Limited W (cond b (fallback_wire sx sy ex ey along J W) (line_wire L is_root J W))
       by true e = fallback-limited sx sy ex ey along J
-      by false e = line-limited L isRoot J (some L.count (eqb-false _ _ e))
+      by false e = line-limited L is_root J (some L.count (eqb-false _ _ e))
         where
           some : (k : ℕ) → (k ≡ 0 → ⊥) → 0 < k
           some k h = omega arith
 
 -- the last vertex of a wire that was made
-pub made : (L : Line) (sx sy ex ey : ℕ) (along isRoot : Bool) (J : Junction) (W : Wires) (T : Tried) → T ≡ route_wire L sx sy ex ey along isRoot J W → W.page.n ≤ 512 → W.net.m ≤ 4096
+pub made : (L : Line) (sx sy ex ey : ℕ) (along is_root : Bool) (J : Junction) (W : Wires) (T : Tried) → T ≡ route_wire L sx sy ex ey along is_root J W → W.page.n ≤ 512 → W.net.m ≤ 4096
     → T.number ≡ 0 → (0 < T.wires.page.n) × (T.wires.page.n ≤ 512)
-made L sx sy ex ey along isRoot J W T t n-le m-le z =
-    let k : Limited W T = rw t (limited W n-le m-le L sx sy ex ey along isRoot J) in
+made L sx sy ex ey along is_root J W T t n-le m-le z =
+    let k : Limited W T = rw t (limited W n-le m-le L sx sy ex ey along is_root J) in
     (omega (arith, k.two_more z), k.vertices_most)

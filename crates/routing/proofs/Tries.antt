@@ -25,17 +25,17 @@ module _ (n v m e : ℕ) (b : Bool) (q : b ≡ fits n v m e) (t : not b ≡ fals
   pub fits-ends : m + e ≤ 4096
   fits-ends = leb-true (m + e) 4096 (and_right (leb (n + v) 512) (leb (m + e) 4096) both)
 
-module _ (L : Line) (isRoot : Bool) (J : Junction) (W : Wires) where
-  pub line-one : L.count ≡ 1 → tried 14 W ≡ line_wire L isRoot J W
+module _ (L : Line) (is_root : Bool) (J : Junction) (W : Wires) where
+  pub line-one : L.count ≡ 1 → tried 14 W ≡ line_wire L is_root J W
   unfolding line_wire
   line-one h = rw (eq-eqb _ _ h)
 
   module _ (ne : L.count ≡ 1 → ⊥) (v : ℕ) (ev : v ≡ line_vertices L) (b : Bool) (q : b ≡ fits W.page.n v W.net.m (line_ends L)) where
-    pub line-over : not b ≡ true → tried 15 W ≡ line_wire L isRoot J W
+    pub line-over : not b ≡ true → tried 15 W ≡ line_wire L is_root J W
     unfolding line_wire
     line-over t = rw (ne_eqb _ _ ne, ← ev, ← q, not-true b t)
 
-    pub line-done : (X : Wires) → not b ≡ false → X ≡ push_vertices L isRoot J W → tried 0 X ≡ line_wire L isRoot J W
+    pub line-done : (X : Wires) → not b ≡ false → X ≡ push_vertices L is_root J W → tried 0 X ≡ line_wire L is_root J W
     unfolding line_wire
     line-done X t e = rw (ne_eqb _ _ ne, ← ev, ← q, not-false b t, e)
 
@@ -48,12 +48,12 @@ module _ (sx sy ex ey : ℕ) (along : Bool) (J : Junction) (W : Wires) (v : ℕ)
   unfolding fallback_wire
   fallback-done X t e = rw (← ev, ← q, not-false b t, e)
 
-module _ (L : Line) (sx sy ex ey : ℕ) (along isRoot : Bool) (J : Junction) (W : Wires) (T : Tried) where
-  pub route-fallback : L.count ≡ 0 → T ≡ fallback_wire sx sy ex ey along J W → T ≡ route_wire L sx sy ex ey along isRoot J W
+module _ (L : Line) (sx sy ex ey : ℕ) (along is_root : Bool) (J : Junction) (W : Wires) (T : Tried) where
+  pub route-fallback : L.count ≡ 0 → T ≡ fallback_wire sx sy ex ey along J W → T ≡ route_wire L sx sy ex ey along is_root J W
   unfolding route_wire
   route-fallback h e = rw (eq-eqb _ _ h) e
 
-  pub route-line : (L.count ≡ 0 → ⊥) → T ≡ line_wire L isRoot J W → T ≡ route_wire L sx sy ex ey along isRoot J W
+  pub route-line : (L.count ≡ 0 → ⊥) → T ≡ line_wire L is_root J W → T ≡ route_wire L sx sy ex ey along is_root J W
   unfolding route_wire
   route-line h e = rw (ne_eqb _ _ h) e
 

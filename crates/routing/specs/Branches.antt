@@ -21,8 +21,8 @@ fits n v m e = leb (n + v) VERTICES && leb (m + e) ENDS
 
 -- a wire along a line
 unfoldable pub line_wire : Line → Bool → Junction → Wires → Tried
-line_wire L isRoot J W =
-    let done = tried 0 (push_vertices L isRoot J W) in
+line_wire L is_root J W =
+    let done = tried 0 (push_vertices L is_root J W) in
     cond (eqb L.count 1) (tried 14 W) (cond (fits W.page.n (line_vertices L) W.net.m (line_ends L)) done (tried 15 W))
 
 -- a fallback from s to e
@@ -33,8 +33,8 @@ fallback_wire sx sy ex ey along J W =
 
 -- a wire from s; e is where it runs to if there is no line
 unfoldable pub route_wire : Line → ℕ → ℕ → ℕ → ℕ → Bool → Bool → Junction → Wires → Tried
-route_wire L sx sy ex ey along isRoot J W =
-    cond (eqb L.count 0) (fallback_wire sx sy ex ey along J W) (line_wire L isRoot J W)
+route_wire L sx sy ex ey along is_root J W =
+    cond (eqb L.count 0) (fallback_wire sx sy ex ey along J W) (line_wire L is_root J W)
 
 -- the end that a branch from (sx, sy) joins: at its line's last place, or where there is no line the first at the least Manhattan distance
 unfoldable pub joined_end : Line → ℕ → ℕ → Ends → ℕ

@@ -30,7 +30,7 @@ kind_at K i = kind_of (get_or K i 0)
 
 -- what an end carries that joins by such a row
 abbrev pub carried : Bool → Junction
-carried isCorner = cond isCorner Corner LineSegment
+carried is_corner = cond is_corner Corner LineSegment
 
 -- the junctions of n vertices: a wire that joins comes after what it joins, and has a vertex before its end
 pub record Joined (n : ℕ) (J : List ℕ) : Type 0 where

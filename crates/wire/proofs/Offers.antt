@@ -67,8 +67,8 @@ nodes-held L J zero W O = O
 nodes-held L J (suc k) W O = node-held L J (suc k) (push_nodes L J k W) (nodes-held L J k W O)
 
 -- the ends of a wire along a line name vertices
-pub line-held : (L : Line) (isRoot : Bool) (J : Junction) (W : Wires) → Held W.page.n W.net → Offered (push_vertices L isRoot J W)
+pub line-held : (L : Line) (is_root : Bool) (J : Junction) (W : Wires) → Held W.page.n W.net → Offered (push_vertices L is_root J W)
 unfolding push_vertices push_start push_dummies push_vertex push_start_ends
-line-held L isRoot J W H =
+line-held L is_root J W H =
     nodes-held L J (L.count - 1) _
     (record { some = omega arith; held = held-push _ _ _ _ _ _ (omega arith) (held-push _ _ _ _ _ _ (omega arith) (held_more (omega arith) H)) })

@@ -26,10 +26,10 @@ pub dummies-pushed : (L : Line) (P Q R : Vertices) (dx dy : ℕ) → dx ≡ dumm
 unfolding push_dummies
 dummies-pushed L P Q R dx dy a b q r = rw (← a, ← b, ← q) r
 
-pub start-pushed : (L : Line) (isRoot : Bool) (P Q R : Vertices) (px py : ℕ) → px ≡ get_or L.x 0 0 → py ≡ get_or L.y 0 0
-    → Q ≡ push_vertex px py (WireStart isRoot) P → R ≡ push_dummies L Q → R ≡ push_start L isRoot P
+pub start-pushed : (L : Line) (is_root : Bool) (P Q R : Vertices) (px py : ℕ) → px ≡ get_or L.x 0 0 → py ≡ get_or L.y 0 0
+    → Q ≡ push_vertex px py (WireStart is_root) P → R ≡ push_dummies L Q → R ≡ push_start L is_root P
 unfolding push_start
-start-pushed L isRoot P Q R px py a b q r = rw (← a, ← b, ← q) r
+start-pushed L is_root P Q R px py a b q r = rw (← a, ← b, ← q) r
 
 pub end-pushed : (e e' : List ℕ) (m px py v kind : ℕ) → e' ≡ put_end e m px py v kind → ends e' (m + 1) ≡ push_end px py v kind (ends e m)
 unfolding push_end
@@ -92,11 +92,11 @@ pub nodes-done : (L : Line) (J : Junction) (k c m : ℕ) (P : Vertices) (e : Lis
     → wires P (ends e (m + c)) ≡ push_nodes L J c W
 nodes-done L J k c m P e W q h = rw (← q) h
 
-pub line-pushed : (L : Line) (isRoot : Bool) (J : Junction) (W : Wires) (P Q : Vertices) (e e' : List ℕ) (m' m'' : ℕ) → Q ≡ push_start L isRoot W.page
+pub line-pushed : (L : Line) (is_root : Bool) (J : Junction) (W : Wires) (P Q : Vertices) (e e' : List ℕ) (m' m'' : ℕ) → Q ≡ push_start L is_root W.page
     → ends e m' ≡ push_start_ends L W.page.n W.net → m'' ≡ m' + (L.count - 1) → wires P (ends e' (m' + (L.count - 1))) ≡ push_nodes L J (L.count - 1) (wires Q (ends e m'))
-    → wires P (ends e' m'') ≡ push_vertices L isRoot J W
+    → wires P (ends e' m'') ≡ push_vertices L is_root J W
 unfolding push_vertices
-line-pushed L isRoot J W P Q e e' m' m'' q s em h = rw (em, h, q, s)
+line-pushed L is_root J W P Q e e' m' m'' q s em h = rw (em, h, q, s)
 
 -- ---- fallbacks
 

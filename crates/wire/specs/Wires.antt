@@ -51,7 +51,7 @@ push_dummies L P =
 
 -- the start and its dummies
 unfoldable pub push_start : Line → Bool → Vertices → Vertices
-push_start L isRoot P = push_dummies L (push_vertex (get_or L.x 0 0) (get_or L.y 0 0) (WireStart isRoot) P)
+push_start L is_root P = push_dummies L (push_vertex (get_or L.x 0 0) (get_or L.y 0 0) (WireStart is_root) P)
 
 -- two ends at the place of the start, the vertex v: at v, and at the second dummy
 unfoldable pub push_start_ends : Line → ℕ → Ends → Ends
@@ -84,8 +84,8 @@ push_nodes L J (suc k) W = push_node L J (suc k) (push_nodes L J k W)
 
 -- start, dummies and corners of a line
 unfoldable pub push_vertices : Line → Bool → Junction → Wires → Wires
-push_vertices L isRoot J W =
-    push_nodes L J (L.count - 1) (wires (push_start L isRoot W.page) (push_start_ends L W.page.n W.net))
+push_vertices L is_root J W =
+    push_nodes L J (L.count - 1) (wires (push_start L is_root W.page) (push_start_ends L W.page.n W.net))
 
 -- how many vertices a line adds, and how many ends
 abbrev pub line_vertices : Line → ℕ
