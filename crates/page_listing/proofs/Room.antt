@@ -1,4 +1,4 @@
--- The listing of a laid_out page fits its room.
+-- The listing of a laid-out page fits its room.
 --     laid-fits     what its rows keep
 --     list-fits     its listing
 use mathlib.Core.Path.{◌≡◌, refl}
