@@ -11,8 +11,7 @@ use lib.Seq.{get_or-set_same, get_or-set_other}
 use lib.Dec.{ltb}
 use borrow.Author.Tests.{lt-ltb, le-ltb, ne_eqb, ltb-true, ltb-false}
 use Rattle.queue.specs.Queue.{UNSET, top, popped, after_pop}
-use Rattle.queue.specs.declared.Popped.{Popped}
-use Rattle.queue.specs.declared.Popped.TheVariants.{At, Empty}
+use Rattle.std.proofs.Common.{Option, Some as Item, None}
 use Rattle.queue.proofs.Ranges.{least-in}
 use Rattle.nodes.specs.Graph.{Graph, none, opposite, onward}
 use Rattle.astar.specs.Search.{HIGH, TURNS, St, holds, arrival, penalty_at, relax, relax_to, expand, pop, run, out, Out, begin, found_of}
@@ -266,29 +265,29 @@ pub record Going (n : ℕ) (G : Graph) (es : List ℕ) (a : ℕ) (s : St) (f : F
   pub inv : Inv n G es a n 0 s
   pub nothing : f ≡ Found.TheVariants.Nothing
 
-pop-full : (q : List ℕ) (r : Popped) (u : ℕ) → r ≡ popped q → r ≡ At u → (get_or q (top q) 0 < UNSET) × (top q ≡ u)
+pop-full : (q : List ℕ) (r : Option ℕ) (u : ℕ) → r ≡ popped q → r ≡ Item u → (get_or q (top q) 0 < UNSET) × (top q ≡ u)
 pop-full q r u e f = go (ltb (get_or q (top q) 0) UNSET) refl (sym e ∙ f)
   where
-    go : (t : Bool) → ltb (get_or q (top q) 0) UNSET ≡ t → cond t (At (top q)) Empty ≡ At u → (get_or q (top q) 0 < UNSET) × (top q ≡ u)
+    go : (t : Bool) → ltb (get_or q (top q) 0) UNSET ≡ t → cond t (Item (top q)) None ≡ Item u → (get_or q (top q) 0 < UNSET) × (top q ≡ u)
     go true b h = (ltb-true _ _ b, cc)
     go false b h = let z : ◌≡◌ {A = ℕ} 0 1 = cc in absurd (omega arith)
 
-pop-empty : (q : List ℕ) (r : Popped) → r ≡ popped q → r ≡ Empty → UNSET ≤ get_or q (top q) 0
+pop-empty : (q : List ℕ) (r : Option ℕ) → r ≡ popped q → r ≡ None → UNSET ≤ get_or q (top q) 0
 pop-empty q r e f = go (ltb (get_or q (top q) 0) UNSET) refl (sym e ∙ f)
   where
-    go : (t : Bool) → ltb (get_or q (top q) 0) UNSET ≡ t → cond t (At (top q)) Empty ≡ Empty → UNSET ≤ get_or q (top q) 0
+    go : (t : Bool) → ltb (get_or q (top q) 0) UNSET ≡ t → cond t (Item (top q)) None ≡ None → UNSET ≤ get_or q (top q) 0
     go true b h = let z : ◌≡◌ {A = ℕ} 0 1 = cc in absurd (omega arith)
     go false b h = ltb-false _ _ b
 
 -- ---- the code's turn: r and s' are what `pop_least` gives
-module _ (n : ℕ) (G : Graph) (w : Roads n G) (es : List ℕ) (a : ℕ) (s : St) (f : Found) (K : Going n G es a s f) (r : Popped) (s' : St)
+module _ (n : ℕ) (G : Graph) (w : Roads n G) (es : List ℕ) (a : ℕ) (s : St) (f : Found) (K : Going n G es a s f) (r : Option ℕ) (s' : St)
     (er : r ≡ popped s.q) (eq : s' ≡ pop s) where
-  pub going-empty : r ≡ Empty → (f ≡ found_of (run TURNS G es (begin n a)).at) × (s' ≡ (run TURNS G es (begin n a)).end)
+  pub going-empty : r ≡ None → (f ≡ found_of (run TURNS G es (begin n a)).at) × (s' ≡ (run TURNS G es (begin n a)).end)
   going-empty h =
       let x : out none (pop s) ≡ run TURNS G es (begin n a) = sym (run-empty G es s K.k (pop-empty s.q r er h)) ∙ K.same in
       (K.nothing ∙ ap (λ (o : Out). found_of o.at) x, eq ∙ ap (λ (o : Out). o.end) x)
 
-  module _ (u : ℕ) (h : r ≡ At u) where
+  module _ (u : ℕ) (h : r ≡ Item u) where
     full : get_or s.q (top s.q) 0 < UNSET
     full = (pop-full s.q r u er h).0
 

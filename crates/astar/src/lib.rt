@@ -1,7 +1,4 @@
 #![tactic(auto)]
-
-use queue::Popped;
-
 // The A* core: one search on the first n nodes of a graph, which is lent as one list.
 ghost use Rattle.std.specs.Prelude.{◌≡◌, cond, ℕ, ◌+◌, ◌-◌, ◌*◌, ◌≤◌, ◌<◌, length, get_or, set, replicate, take, drop, eqb, reverse};
 ghost use Rattle.columns.specs.Columns.{Only};
@@ -318,10 +315,10 @@ pub fn find_path_impl(
     'outer: loop {
         let top = queue::pop_least(cells, tree, n);
         match top {
-            Popped::Empty => {
+            None => {
                 break 'outer;
             }
-            Popped::At(u) => {
+            Some(u) => {
                 if columns::get(cells, n, MARK, u) != 0 {
                     found = Found::Node(u);
                     break 'outer;

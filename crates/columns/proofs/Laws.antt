@@ -1,14 +1,17 @@
 -- The laws of columns: length, entries, a store, a fill.
-use Prim.Native.Nat.{ℕ, suc, ◌+◌, ◌*◌, ◌≤◌, ◌<◌}
+use Prim.Native.Nat.{ℕ, suc, ◌+◌, ◌-◌, ◌*◌, ◌≤◌, ◌<◌}
 use mathlib.Core.Path.{◌≡◌, refl, sym, ap, ◌∙◌}
 use mathlib.Core.List.{List}
 use native.Mathlib.Omega.{arith}
 use native.Mathlib.Decide.{ℕ_discrete, dec_lt}
 use native.Mathlib.Nat.{suc-mul, mul-le-mul_right}
-use lib.ListN.{length, get_or, set, take, replicate, length-set, length-take, length-replicate, get_or-replicate}
-use lib.Seq.{get_or-set_same, get_or-set_other, get_or-take, ext_get_or}
+use lib.ListN.{length, get_or, set, take, replicate, length-set, length-take, length-append, length-drop, length-replicate}
+use borrow.Rule.Slice.PartMut.{put_mid}
+use Rattle.std.proofs.lemmas.List.{places}
+use Rattle.std.proofs.lemmas.Slice.{between-put_mid}
+use lib.Seq.{length-take-le, get_or-set_same, get_or-set_other, get_or-take, ext_get_or}
 use Rattle.fixed.specs.Columns.{cell}
-use Rattle.fixed.proofs.Columns.{length-pick, pick_at}
+use Rattle.fixed.proofs.Columns.{length-pick, pick_at, part-pick}
 use Rattle.columns.specs.Columns.{column, Only}
 
 -- ---- places in the list: a later column's words lie behind
@@ -68,25 +71,39 @@ only-refl n w l = record { others = λ k ne. refl; long = refl }
 pub only_then : (n w : ℕ) (a b c : List ℕ) → Only n w a b → Only n w b c → Only n w a c
 only_then n w a b c p q = record { others = λ k ne. q.others k ne ∙ p.others k ne; long = q.long ∙ p.long }
 
--- ---- a fill: the first i entries are x
+-- ---- a fill
 
-pub record Filled (n w x i : ℕ) (a b : List ℕ) : Type 0 where
-  pub done : (k : ℕ) → k < i → get_or (column w n b) k 0 ≡ x
-  pub only : Only n w a b
+module _ (n w x : ℕ) (l ys : List ℕ) (room : w * n + n ≤ length l) (m : ℕ) (same_size : m ≡ n) (e : ys ≡ replicate n x) where
+  size : length ys ≡ n
+  size = rw e (length-replicate n x)
 
-module _ (n w x : ℕ) (a : List ℕ) where
-  pub filled_none : Filled n w x 0 a a
-  filled_none = record { done = λ k h. absurd (omega arith); only = only-refl n w a }
+  pub column-fill : column w n (put_mid (w * n) m l ys) ≡ replicate n x
+  unfolding column
+  column-fill =
+      let far : w * n + n ≤ length (put_mid (w * n) m l ys) = simp (length-append, length-drop) (omega (arith, size, length-take-le (w * n) l (omega arith))) in
+      let whole = between-put_mid (w * n) m l ys (w * n + n) (omega arith) (size ∙ omega arith) in
+      let k : w * n + n - w * n ≡ n = omega arith in
+      sym (part-pick (w * n) n (put_mid (w * n) m l ys) far) ∙ rw k at whole ∙ e
 
-  pub filled_on : (i : ℕ) (b c : List ℕ) → i < n → Filled n w x i a b → column w n c ≡ set (column w n b) i x → Only n w b c → Filled n w x (i + 1) a c
-  filled_on i b c h F e o = record { done = λ k l. by k l (ℕ_discrete k i); only = only_then n w a b c F.only o }
+  kept : (j : ℕ) → (w * n ≤ j → j < w * n + n → ⊥) → get_or (put_mid (w * n) m l ys) j 0 ≡ get_or l j 0
+  kept j out = go (dec_lt j (w * n))
     where
-      by : (k : ℕ) → k < i + 1 → Dec (k ≡ i) → get_or (column w n c) k 0 ≡ x
-      by k l (yes z) = rw (e, z) (get_or-set_same (column w n b) i x 0 (omega (arith, column-long w n b)))
-      by k l (no z) = rw e (get_or-set_other (column w n b) i k x 0 z ∙ F.done k (omega arith))
+      go : Dec (j < w * n) → get_or (put_mid (w * n) m l ys) j 0 ≡ get_or l j 0
+      go (yes h) = grind (arith, places)
+      go (no h) =
+          let z : w * n + n ≤ j = by (dec_lt j (w * n + n)) in
+          grind (arith, places, size)
+        where
+          by : Dec (j < w * n + n) → w * n + n ≤ j
+          by (yes q) = absurd (out (omega arith) q)
+          by (no q) = omega arith
 
-  pub filled-all : (i : ℕ) (b : List ℕ) → n ≤ i → Filled n w x i a b → column w n b ≡ replicate n x
-  filled-all i b h F = same w n b _ (length-replicate n x) (λ k l. sym (column-at w n b k l) ∙ F.done k (omega arith) ∙ sym (get_or-replicate n k x 0 l))
+  pub column-fill-only : Only n w l (put_mid (w * n) m l ys)
+  column-fill-only =
+      record {
+        others = λ k ne. same k n _ _ (column-long k n l) (λ i h. kept (k * n + i) (λ p q. apart n k w i (k * n + i - w * n) h (omega arith) ne (omega arith)) ∙ sym (column-at k n l i h));
+        long = simp (length-append, length-drop) (omega (arith, size, length-take-le (w * n) l (omega arith)));
+      }
 
 -- the first column of a list is its first n words
 pub column-first : (n : ℕ) (l : List ℕ) → n ≤ length l → column 0 n l ≡ take n l

@@ -25,9 +25,5 @@ pub fn fill(list: &mut [u64], n: usize, w: usize, x: u64)
     requires { w * n + n ≤ length list.old }
     ensures { (column w n list.new ≡ replicate n x) × Only n w list.old list.new }
 {
-    let mut v: usize = 0;
-    while v < n {
-        put(list, n, w, v, x);
-        v += 1;
-    }
+    list[w * n..w * n + n].fill(x);
 }

@@ -61,10 +61,10 @@ fn is_lent(desk: usize, lx: usize, ly: usize, kinds: usize, dirs: usize) -> bool
 fn no_line(lx: &mut [i32], ly: &mut [i32], kinds: &mut [u8], dirs: &mut [u8])
     ensures { outputs lx.new ly.new kinds.new dirs.new ≡ zeros (outputs lx.old ly.old kinds.old dirs.old) }
 {
-    zeros::zero_steps(lx, 0);
-    zeros::zero_steps(ly, 0);
-    zeros::zero_bytes(kinds, 0);
-    zeros::zero_bytes(dirs, 0);
+    zeros::close(lx, 0, 0);
+    zeros::close(ly, 0, 0);
+    zeros::close(kinds, 0, 0);
+    zeros::close(dirs, 0, 0);
 }
 
 // A search on a desk that is valid, with arguments that keep their ranges: 8, 9, 10, 11 or 0.

@@ -1,9 +1,9 @@
 -- 01, 'Separation': a moved pair takes its junctions along as `move_junctions` does. A pair is named by its first vertex.
-use Rattle.std.specs.Prelude.{◌≡◌, Bool, cond, List, ℕ, zero, suc, ◌+◌, ◌-◌, ◌<◌, ◌≤◌, eqb, length, get_or, set}
-use Rattle.fixed.specs.Track.{TRACKS, track, moved}
+use Rattle.std.specs.Prelude.{Bool, cond, List, ℕ, zero, suc, ◌+◌, ◌-◌, ◌<◌, ◌≤◌, eqb, length, get_or, set}
+use Rattle.fixed.specs.Track.{track, moved}
 use Rattle.vertex.specs.Kinds.{start}
 use Rattle.vertex.specs.Pages.{rows, holder, joiner, corner, kind_at}
-use Rattle.tracks.specs.Corridors.{same_at, pair_of, corridor_of, Keyed}
+use Rattle.tracks.specs.Corridors.{same_at, pair_of, corridor_of}
 
 -- the places of a page's vertices
 pub record Places : Type 0 where
@@ -74,13 +74,15 @@ unfoldable pub move_pair : Bool → List ℕ → List ℕ → Places → ℕ →
 move_pair vertical K J s i c =
     move_junctions K J i (cond vertical (places (put_pair s.x i c) s.y) (places s.x (put_pair s.y i c)))
 
--- the pair at place k of the keys, moved by the offset of its track
-unfoldable pub move_at : Bool → List ℕ → List ℕ → List ℕ → List ℕ → ℕ → Places → Places
-move_at vertical K J keys ts k s =
-    let key = get_or keys k 0 in
-    let t = get_or ts k 0 in
+-- the pair of a key, moved by the offset of a track
+abbrev pub move_key : Bool → List ℕ → List ℕ → ℕ → ℕ → Places → Places
+move_key vertical K J key t s =
     let on = move_pair vertical K J s (pair_of key) (moved (corridor_of key) (track t)) in
     cond (eqb t 0) s on
+
+-- the pair at place k of the keys, moved by the offset of its track
+unfoldable pub move_at : Bool → List ℕ → List ℕ → List ℕ → List ℕ → ℕ → Places → Places
+move_at vertical K J keys ts k s = move_key vertical K J (get_or keys k 0) (get_or ts k 0) s
 
 -- the first k pairs
 unfoldable pub moves_to : Bool → List ℕ → List ℕ → List ℕ → List ℕ → ℕ → Places → Places
@@ -94,18 +96,8 @@ LOWEST = 1073741824
 abbrev pub HIGHEST : ℕ
 HIGHEST = 3221225472
 
--- what moving asks: lists of the page's length, and v one of the pair's two vertices
-pub record Room (n : ℕ) {A : Type 0} (ys : List A) (K : List ℕ) (i v : ℕ) : Type 0 where
-  pub paired : length ys ≡ n
-  pub known : n ≤ length K
+-- v is one of the two vertices of the pair at i of n vertices
+pub record Side (n i v : ℕ) : Type 0 where
   pub from : i ≤ v
   pub to : v ≤ i + 1
   pub inside : i + 1 < n
-
--- what moving all pairs asks: keys of pairs of the page, and a track for each
-pub record Movable (n : ℕ) {A : Type 0} (ys : List A) (K keys ts : List ℕ) : Type 0 where
-  pub paired : length ys ≡ n
-  pub known : n ≤ length K
-  pub keyed : Keyed LOWEST HIGHEST n keys
-  pub held : length keys ≤ length ts
-  pub small : (k : ℕ) → k < length keys → get_or ts k 0 < TRACKS

@@ -42,7 +42,7 @@ fn put_net(nets: &mut [u32], i: usize, number: u32, first: u32, count: u32, begi
 pub fn clear(nets: &mut [u32], x: &mut [i32], y: &mut [i32], letters: &mut [u8], joins: &mut [u32])
     ensures { page_out nets.new x.new y.new letters.new 0 joins.new 0 ≡ blank (length nets.old) (length x.old) (length y.old) (length letters.old) (length joins.old) }
 {
-    zeros::zero_words(nets, 0);
+    zeros::close(nets, 0, 0);
     net::refuse(0, x, y, letters, 0, joins, 0);
 }
 

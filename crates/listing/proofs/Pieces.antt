@@ -1,9 +1,12 @@
 -- The lines as the pieces that are written one behind another.
-use mathlib.Core.Path.{◌≡◌, refl, ap, ◌∙◌}
+use mathlib.Core.Path.{◌≡◌, refl, sym, ap, ◌∙◌}
 use mathlib.Core.List.{List, [], ◌∷◌, ◌++◌, append_assoc}
 use Prim.Native.Nat.{ℕ, ◌+◌, ◌≤◌}
 use native.Mathlib.Omega.{arith}
-use lib.ListN.{length, length-append}
+use lib.IntN.{ℤ}
+use lib.ListN.{length, length-append, get_or, get_or-eq_default}
+use Rattle.fixed.specs.Up.{ups}
+use Rattle.fixed.proofs.Lists.{length-ups}
 use Rattle.decimals.specs.Bytes.{TAB, LF}
 use Rattle.decimals.specs.Write.{field, tabbed, Put}
 use Rattle.decimals.proofs.Written.{put_then}
@@ -79,6 +82,8 @@ net-room w f g h k = ap length (net-pieces w f g h k) ∙ four w (field f ++ fie
 pub pair-room : (w f g : List ℕ) → length (line w (f ∷ g ∷ [])) ≡ length w + length (field f ++ field g) + 1
 pair-room w f g = ap length (pair-pieces w f g) ∙ three w (field f ++ field g) _
 
+pub ruleset rooms = (vertex-room, join-room, net-room, pair-room, length-append)
+
 -- ---- pieces behind pieces
 
 pub put_3 : (buf u v w a b c : List ℕ) (at e f g : ℕ) → Put buf at a u e → Put u e b v f → Put v f c w g → at + (length a + length b + length c) ≤ length buf
@@ -90,3 +95,8 @@ pub put_4 : (buf u v w x a b c d : List ℕ) (at e f g h : ℕ) → Put buf at a
     → at + (length a + length b + length c + length d) ≤ length buf → Put buf at (((a ++ b) ++ c) ++ d) x h
 put_4 buf u v w x a b c d at e f g h p q r s l =
     put_then buf w x ((a ++ b) ++ c) d at g h (put_3 buf u v w a b c at e f g p q r (omega arith)) s (omega (arith, three a b c))
+
+-- ---- coordinates
+
+pub coord_past : (xs : List ℤ) (i : ℕ) → length xs ≤ i → 0 ≡ get_or (ups xs) i 0
+coord_past xs i h = sym (get_or-eq_default (ups xs) 0 (omega (arith, length-ups xs)))

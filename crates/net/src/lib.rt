@@ -126,10 +126,10 @@ pub fn refuse(
     requires { (n ≤ length x.old) × (n ≤ length y.old) × (n ≤ length letters.old) × (j ≤ 256) × (3 * j ≤ length joins.old) }
     ensures { net result.number (vertices_out x.new y.new letters.new result.n) joins.new result.j ≡ refused number (vertices_in x.old y.old letters.old n) joins.old j }
 {
-    zeros::zero_steps(x, n);
-    zeros::zero_steps(y, n);
-    zeros::zero_bytes(letters, n);
-    zeros::zero_words(joins, 3 * j);
+    zeros::close(x, n, 0);
+    zeros::close(y, n, 0);
+    zeros::close(letters, n, 0);
+    zeros::close(joins, 3 * j, 0);
     Done { number, n, j }
 }
 

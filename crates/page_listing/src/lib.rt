@@ -36,9 +36,15 @@ fn print_laid(
     ensures put { Put out.old 0 (listing (page_on (book_of desk.now).lists (drawing nets.now x.now y.now kinds.now joins.now)) (length (book_of desk.now).lists.nets)) out.new result }
     ensures first { First result out.new }
 {
-    let n = select::count_of(desk, book::Kind::Net);
-    let ids = select::rows_of(desk, book::Kind::Net);
-    listing::write_listing(out, nets, ids, x, y, kinds, joins, n)
+    let page = listing::Page {
+        nets,
+        ids: select::rows_of(desk, book::Kind::Net),
+        xs: x,
+        ys: y,
+        kinds,
+        junctions: joins,
+    };
+    listing::write_listing(out, page)
 }
 
 // Lays out the page of a desk, and prints it. The lists are made here.

@@ -124,7 +124,7 @@ fn write_places(cs: &[i32], n: usize, line: &[u32], to: &mut [i32])
 {
     let m = taken(line.len(), to.len());
     put_places(cs, n, line, m, to);
-    zeros::zero_steps(to, m);
+    zeros::close(to, m, 0);
 }
 
 // The kind of the k-th of m nodes.
@@ -160,7 +160,7 @@ fn write_kinds(m: usize, to: &mut [u8])
 {
     let j = taken(m, to.len());
     put_kinds(m, j, to);
-    zeros::zero_bytes(to, j);
+    zeros::close(to, j, 0);
 }
 
 // A direction as its bit.
@@ -209,7 +209,7 @@ fn write_directions(nodes: &[i32], n: usize, line: &[u32], to: &mut [u8])
 {
     let m = taken(line.len(), to.len());
     put_directions(nodes, n, line, m, to);
-    zeros::zero_bytes(to, m);
+    zeros::close(to, m, 0);
 }
 
 // Whether `iter_pruned` keeps the k-th node.

@@ -2,7 +2,7 @@
 // `tree` is a tournament of the entries' keys, so that neither looks at all entries.
 #![tactic(auto)]
 
-ghost use Rattle.std.specs.Prelude.{◌≡◌, ℕ, ◌+◌, ◌*◌, ◌≤◌, ◌<◌, min, length, get_or, set};
+ghost use Rattle.std.specs.Prelude.{◌≡◌, ℕ, ◌+◌, ◌*◌, ◌≤◌, ◌<◌, length, get_or, set};
 ghost use Rattle.columns.specs.Columns.{Only};
 ghost use Rattle.queue.specs.Columns.{WIDTH, SUM, sums};
 ghost use Rattle.queue.specs.Queue.{NODES, top as top_s, popped, after_pop};
@@ -18,40 +18,31 @@ pub const UNSET: u64 = 18446744073709551615;
 // Sums from 2^51 on have no key.
 const TALL: u64 = 2251799813685248;
 
-#[derive(Clone, Copy)]
-pub enum Popped {
-    At(usize),
-    Empty,
-}
-
-// The first least entry from lo to before hi.
-fn least_in(cells: &[u64], n: usize, lo: usize, hi: usize) -> usize
-    requires { (lo < hi) × (hi ≤ n) × (n * WIDTH ≤ length cells.now) }
-    ensures { LeastIn (sums n cells.now) lo hi result }
+// The first least entry by a scan.
+fn scan(cells: &[u64], n: usize) -> usize
+    requires { (0 < n) × (n * WIDTH ≤ length cells.now) }
+    ensures { LeastIn (sums n cells.now) 0 n result }
 {
-    let mut best = lo;
-    let mut i = lo + 1;
-    while i < hi {
-        let x = columns::get(cells, n, SUM, i);
-        let y = columns::get(cells, n, SUM, best);
-        if x < y {
+    let mut best = 0;
+    for i in 1..n {
+        if columns::get(cells, n, SUM, i) < columns::get(cells, n, SUM, best) {
             best = i;
         }
-        i += 1;
     }
     best
 }
 
-// The first least entry of all: the tree's least key tells it, unless no sum has a key.
+// The first least entry: the tree's least key tells it, unless no sum has a key.
 fn top(cells: &[u64], tree: &[u64], n: usize) -> usize
     requires { Indexed (sums n cells.now) tree.now × (n * WIDTH ≤ length cells.now) }
     ensures { (result ≡ top_s (sums n cells.now)) × (result < n) }
 {
     let x = tree[1];
     if x < UNSET {
-        return (x % 4096) as usize;
+        (x % 4096) as usize
+    } else {
+        scan(cells, n)
     }
-    least_in(cells, n, 0, n)
 }
 
 // The key of the node v with the sum f.
@@ -66,12 +57,6 @@ fn key(f: u64, v: usize) -> u64
     }
 }
 
-fn lesser(a: u64, b: u64) -> u64
-    ensures { result ≡ min a b }
-{
-    if a < b { a } else { b }
-}
-
 // Replaces the key of the node v of n, and goes up.
 fn raise(tree: &mut [u64], n: usize, v: usize, x: u64)
     requires { Tree n tree.old × (v < n) × (n ≤ NODES) }
@@ -80,9 +65,10 @@ fn raise(tree: &mut [u64], n: usize, v: usize, x: u64)
     let mut k = n + v;
     let mut best = x;
     tree[k] = best;
+    // k is halved: no range counts so.
     while 1 < k {
-        best = lesser(best, tree[k + 1 - 2 * (k % 2)]);
-        k = k / 2;
+        best = best.min(tree[k + 1 - 2 * (k % 2)]);
+        k /= 2;
         tree[k] = best;
     }
 }
@@ -97,7 +83,7 @@ pub fn put(cells: &mut [u64], tree: &mut [u64], n: usize, v: usize, f: u64)
 }
 
 // Takes the first least entry out.
-pub fn pop_least(cells: &mut [u64], tree: &mut [u64], n: usize) -> Popped
+pub fn pop_least(cells: &mut [u64], tree: &mut [u64], n: usize) -> Option<usize>
     requires { Indexed (sums n cells.old) tree.old × (n * WIDTH ≤ length cells.old) }
     ensures value { result ≡ popped (sums n cells.old) }
     ensures cells_value { (sums n cells.new ≡ after_pop (sums n cells.old)) × Only n SUM cells.old cells.new × Indexed (sums n cells.new) tree.new }
@@ -105,9 +91,5 @@ pub fn pop_least(cells: &mut [u64], tree: &mut [u64], n: usize) -> Popped
     let r = top(cells, tree, n);
     let f = columns::get(cells, n, SUM, r);
     put(cells, tree, n, r, UNSET);
-    if f < UNSET {
-        Popped::At(r)
-    } else {
-        Popped::Empty
-    }
+    if f < UNSET { Some(r) } else { None }
 }

@@ -1,4 +1,3 @@
-mod Table
 pub mod Tracks
 mod Extent
 pub mod Gathering

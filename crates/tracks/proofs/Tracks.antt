@@ -1,41 +1,42 @@
 -- One turn of each loop over tracks, as an equation of the definitions of specs/Tracks.
 use Prim.Native.Nat.{ℕ, zero, suc, ◌+◌, ◌/◌, ◌%◌, ◌≤◌, ◌<◌}
 use mathlib.Core.Path.{◌≡◌, refl, sym, ap, ◌∙◌}
-use mathlib.Core.Bool.{Bool, true, false, cond}
+use mathlib.Core.Bool.{Bool, true, false, cond, not}
+use Rattle.std.specs.List.{position, position_or_len}
+use Rattle.std.specs.Option.{unwrap_or}
+use Rattle.std.specs.Prelude.{Option, Some, None}
 use mathlib.Core.List.{List, [], ◌∷◌, ◌++◌}
 use native.Mathlib.Numerals.{add-one}
 use native.Mathlib.Omega.{arith}
-use native.Mathlib.Nat.{add-zero, eq-or-lt_of_le, le_of_suc-le-suc}
-use lib.Dec.{ltb, leb, eqb}
-use lib.ListN.{length, get_or, set, take, drop, replicate, length-set, length-replicate, length-append, get_or-append}
+use native.Mathlib.Nat.{eq-or-lt_of_le, le_of_suc-le-suc}
+use lib.Dec.{ltb, eqb}
+use lib.ListN.{length, get_or, set, take, replicate, length-set, length-replicate, length-append, get_or-append}
 use mathlib.Core.Logic.{⊎_elim}
-use lib.Seq.{drop-cons, drop-length, get_or-take, get_or_at, take-suc-set}
-use borrow.Author.Tests.{lt-ltb, le-ltb, le-leb, lt-leb, eq-eqb, ne_eqb, eqb-true, eqb-false, ltb-true, ltb-false}
-use Rattle.tracks.specs.Corridors.{Pairs, pair_of, corridor_of}
-use Rattle.tracks.specs.Tracks.{corridor_start, Rising, From, overlap, clash, marks, first_clear, track_at, tracks_to, Tracked}
-
-pub overlap-no : (lo hi lo' hi' a b : ℕ) → a ≡ hi' → b ≡ lo → a + 1280 < b → false ≡ overlap lo hi lo' hi'
-overlap-no lo hi lo' hi' a b ea eb h = rw (lt-leb lo (hi' + 1280) (omega arith))
-
-pub overlap-maybe : (lo hi lo' hi' a b d e : ℕ) → a ≡ hi' → b ≡ lo → b ≤ a + 1280 → d ≡ lo' → e ≡ hi → leb d (e + 1280) ≡ overlap lo hi lo' hi'
-overlap-maybe lo hi lo' hi' a b d e ea eb h ed ee = rw (le-leb lo (hi' + 1280) (omega arith), ed, ee)
+use lib.Seq.{get_or-take, get_or_at, take-suc-set}
+use borrow.Author.Tests.{lt-ltb, le-ltb, ne_eqb, eqb-true, eqb-false, ltb-true, ltb-false}
+use Rattle.tracks.specs.Corridors.{Pairs, corridor_of}
+use Rattle.tracks.specs.Tracks.{corridor_start, Rising, From, clash, marks, first_clear, track_at, tracks_to, Tracked}
 
 -- ---- the first clear mark
 
-pub clear-start : (l : List Bool) → 0 + first_clear (drop 0 l) ≡ first_clear l
-clear-start l = omega arith
-
-pub clear-here : (l : List Bool) (i : ℕ) → i < length l → get_or l i false ≡ false → i + first_clear (drop i l) ≡ first_clear l → i ≡ first_clear l
+clear-is : (l : List Bool) → position_or_len not l ≡ first_clear l
 unfolding first_clear
-clear-here l i h e inv = rw (drop-cons l i false h, e, add-zero) at inv
+clear-is [] = refl
+clear-is (true ∷ l) = omega (arith, clear-is l)
+clear-is (false ∷ l) = refl
 
-pub clear_next : (l : List Bool) (i : ℕ) → i < length l → get_or l i false ≡ true → i + first_clear (drop i l) ≡ first_clear l → i + 1 + first_clear (drop (i + 1) l) ≡ first_clear l
+clear-le : (l : List Bool) → first_clear l ≤ length l
 unfolding first_clear
-clear_next l i h e inv = rw (add-one) (omega (arith, rw (drop-cons l i false h, e) at inv))
+clear-le [] = omega arith
+clear-le (true ∷ l) = omega (arith, clear-le l)
+clear-le (false ∷ l) = omega arith
 
-pub clear_none : (l : List Bool) (i : ℕ) → length l ≡ i → i + first_clear (drop i l) ≡ first_clear l → i ≡ first_clear l
-unfolding first_clear
-clear_none l i e inv = sym e ∙ (rw (← e, drop-length, add-zero) at inv)
+pub clear-found : (l : List Bool) (r : Option ℕ) → r ≡ position not l → unwrap_or r (length l) ≡ first_clear l
+clear-found l r e = rw e (go (ltb (position_or_len not l) (length l)) refl)
+  where
+    go : (b : Bool) → ltb (position_or_len not l) (length l) ≡ b → unwrap_or (cond b (Some (position_or_len not l)) None) (length l) ≡ first_clear l
+    go true h = clear-is l
+    go false h = omega (arith, ltb-false _ _ h, clear-is l, clear-le l)
 
 -- ---- clashes and marks
 
@@ -44,20 +45,15 @@ module _ (low high : List ℕ) (a b : ℕ) where
   unfolding clash
   clash-apart h = rw (ne_eqb _ _ h)
 
-  pub clash-together : a / 2048 ≡ b / 2048 → (p q : ℕ) (r : Bool) → p ≡ pair_of a → q ≡ pair_of b
-      → r ≡ overlap (get_or low p 0) (get_or high p 0) (get_or low q 0) (get_or high q 0) → r ≡ clash low high a b
-  unfolding clash
-  clash-together h p q r ep eq er = rw (eq-eqb _ _ h, ← ep, ← eq) er
-
 module _ (P : Pairs) (ts : List ℕ) (a : ℕ) where
-  module _ (q : ℕ) (used : List Bool) (inv : used ≡ marks P ts a q) (r : Bool) (er : r ≡ clash P.low P.high a (get_or P.keys q 0)) where
+  module _ (q : ℕ) (used : List Bool) (inv : used ≡ marks P ts a q) (b : ℕ) (eb : b ≡ get_or P.keys q 0) (r : Bool) (er : r ≡ clash P.low P.high a b) where
     pub marks-more : r ≡ true → (t : ℕ) → t ≡ get_or ts q 0 → set used t true ≡ marks P ts a (q + 1)
     unfolding marks
-    marks-more e t et = rw (add-one, ← er, e, ← inv, ← et)
+    marks-more e t et = rw (add-one, ← eb, ← er, e, ← inv, ← et)
 
     pub marks-same : r ≡ false → used ≡ marks P ts a (q + 1)
     unfolding marks
-    marks-same e = rw (add-one, ← er, e) inv
+    marks-same e = rw (add-one, ← eb, ← er, e) inv
 
 -- no earlier pair outside the corridor sets a mark
 pub marks-skip : (P : Pairs) (ts : List ℕ) (a q : ℕ) → ((p : ℕ) → p < q → corridor_of (get_or P.keys p 0) ≡ corridor_of a → ⊥) → replicate 512 false ≡ marks P ts a q
@@ -78,13 +74,14 @@ length-marks P ts a (suc k) = go (clash P.low P.high a (get_or P.keys k 0)) (len
 -- ---- the track
 
 module _ (P : Pairs) (ts : List ℕ) (k : ℕ) where
-  pub track-locked : get_or P.keys k 0 % 2048 < 512 → 0 ≡ track_at P ts k
-  unfolding track_at
-  track-locked h = rw (lt-ltb _ _ h)
+  module _ (a : ℕ) (ea : a ≡ get_or P.keys k 0) where
+    pub track-locked : a % 2048 < 512 → 0 ≡ track_at P ts k
+    unfolding track_at
+    track-locked h = rw (← ea, lt-ltb _ _ h)
 
-  pub track-first : 512 ≤ get_or P.keys k 0 % 2048 → (q : ℕ) → q ≡ k → (used : List Bool) (r : ℕ) → used ≡ marks P ts (get_or P.keys k 0) q → r ≡ first_clear used → r ≡ track_at P ts k
-  unfolding track_at
-  track-first h q e used r eu er = er ∙ rw (le-ltb _ _ h, eu, e)
+    pub track-first : 512 ≤ a % 2048 → (q : ℕ) → q ≡ k → (used : List Bool) (r : ℕ) → used ≡ marks P ts a q → r ≡ first_clear used → r ≡ track_at P ts k
+    unfolding track_at
+    track-first h q e used r eu er = er ∙ rw (← ea, le-ltb _ _ h, eu, e)
 
 -- ---- no track is above the number of earlier pairs
 
@@ -165,9 +162,6 @@ tracks-none P = refl
 
 pub track-is-le : (P : Pairs) (ts : List ℕ) (k t : ℕ) → t ≡ track_at P ts k → t ≤ k
 track-is-le P ts k t e = rw e (track-le P ts k)
-
-pub tracks-done : (P : Pairs) (k : ℕ) (track : List ℕ) → take k track ≡ tracks_to P k → (n : ℕ) → k ≡ n → take n track ≡ tracks_to P n
-tracks-done P k track inv n e = rw (← e) inv
 
 -- ---- where a corridor starts
 

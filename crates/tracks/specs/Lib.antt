@@ -4,3 +4,4 @@ pub mod Corridors
 pub mod Tracks
 pub mod Promises
 pub mod Cases
+pub mod Held

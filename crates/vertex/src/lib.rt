@@ -7,14 +7,14 @@ ghost use Rattle.vertex.specs.Kinds.{kind_of, letter_of, start};
 ghost use Rattle.vertex.specs.Vertices.{vertex_at};
 
 // What a wire's end carries: no junction, or its kind.
-#[derive(Clone, Copy)]
+#[derive(Clone, Copy, Debug, PartialEq, Eq)]
 pub enum Junction {
     None,
     Corner,
     LineSegment,
 }
 
-#[derive(Clone, Copy)]
+#[derive(Clone, Copy, Debug, PartialEq, Eq)]
 pub enum VertexKind {
     WireStart { is_root: bool },
     Dummy,
@@ -23,76 +23,65 @@ pub enum VertexKind {
 }
 
 // A vertex; its place is counted from -2^31.
-#[derive(Clone, Copy)]
+#[derive(Clone, Copy, Debug, PartialEq, Eq)]
 pub struct Vertex {
     pub x: u32,
     pub y: u32,
     pub kind: VertexKind,
 }
 
-// The kind that a letter stands for; any other byte is read as a normal corner.
-pub fn kind_of(letter: u8) -> VertexKind
-    ensures { result ≡ kind_of letter }
-{
-    if letter == b'R' {
-        return VertexKind::WireStart { is_root: true };
+impl VertexKind {
+    // Whether a vertex of that kind starts a wire.
+    pub fn is_start(self) -> bool
+        ensures { result ≡ start self }
+    {
+        matches!(self, VertexKind::WireStart { .. })
     }
-    if letter == b'B' {
-        return VertexKind::WireStart { is_root: false };
-    }
-    if letter == b'D' {
-        return VertexKind::Dummy;
-    }
-    if letter == b'E' {
-        return VertexKind::WireEnd {
-            junction: Junction::None,
-        };
-    }
-    if letter == b'C' {
-        return VertexKind::WireEnd {
-            junction: Junction::Corner,
-        };
-    }
-    if letter == b'L' {
-        return VertexKind::WireEnd {
-            junction: Junction::LineSegment,
-        };
-    }
-    VertexKind::Normal
 }
 
-// The letter of an end.
-fn end_letter(junction: Junction) -> u8
-    ensures { result ≡ letter_of (VertexKind.WireEnd junction) }
-{
-    match junction {
-        Junction::None => b'E',
-        Junction::Corner => b'C',
-        Junction::LineSegment => b'L',
+// The kind that a letter stands for; any other byte is read as a normal corner.
+impl From<u8> for VertexKind {
+    ghost from_gives = { λ letter kind. kind ≡ kind_of letter };
+
+    fn from(letter: u8) -> VertexKind {
+        match letter {
+            b'R' => VertexKind::WireStart { is_root: true },
+            b'B' => VertexKind::WireStart { is_root: false },
+            b'D' => VertexKind::Dummy,
+            b'E' => VertexKind::WireEnd {
+                junction: Junction::None,
+            },
+            b'C' => VertexKind::WireEnd {
+                junction: Junction::Corner,
+            },
+            b'L' => VertexKind::WireEnd {
+                junction: Junction::LineSegment,
+            },
+            _ => VertexKind::Normal,
+        }
     }
 }
 
 // The letter of a kind.
-pub fn letter_of(kind: VertexKind) -> u8
-    ensures { result ≡ letter_of kind }
-{
-    match kind {
-        VertexKind::WireStart { is_root } => if is_root { b'R' } else { b'B' },
-        VertexKind::Dummy => b'D',
-        VertexKind::Normal => b'N',
-        VertexKind::WireEnd { junction } => end_letter(junction),
-    }
-}
+impl From<VertexKind> for u8 {
+    ghost from_gives = { λ kind letter. letter ≡ letter_of kind };
 
-// Whether a vertex of that kind starts a wire.
-pub fn is_start(kind: VertexKind) -> bool
-    ensures { result ≡ start kind }
-{
-    match kind {
-        VertexKind::WireStart { is_root: _ } => true,
-        VertexKind::Dummy => false,
-        VertexKind::Normal => false,
-        VertexKind::WireEnd { junction: _ } => false,
+    fn from(kind: VertexKind) -> u8 {
+        match kind {
+            VertexKind::WireStart { is_root: true } => b'R',
+            VertexKind::WireStart { is_root: false } => b'B',
+            VertexKind::Dummy => b'D',
+            VertexKind::Normal => b'N',
+            VertexKind::WireEnd {
+                junction: Junction::None,
+            } => b'E',
+            VertexKind::WireEnd {
+                junction: Junction::Corner,
+            } => b'C',
+            VertexKind::WireEnd {
+                junction: Junction::LineSegment,
+            } => b'L',
+        }
     }
 }
 
@@ -101,10 +90,11 @@ pub fn vertex_at(x: &[i32], y: &[i32], kinds: &[u8], i: usize) -> Vertex
     requires { (i < length x.now) × (i < length y.now) × (i < length kinds.now) }
     ensures { result ≡ vertex_at (ups x.now) (ups y.now) kinds.now i }
 {
-    let px = fixed::at(x, i);
-    let py = fixed::at(y, i);
-    let kind = kind_of(kinds[i]);
-    Vertex { x: px, y: py, kind }
+    Vertex {
+        x: fixed::at(x, i),
+        y: fixed::at(y, i),
+        kind: VertexKind::from(kinds[i]),
+    }
 }
 
 // Stores a vertex at i of the lent lists.
@@ -114,6 +104,5 @@ pub fn put_vertex(x: &mut [i32], y: &mut [i32], kinds: &mut [u8], i: usize, vert
 {
     fixed::put(x, i, vertex.x);
     fixed::put(y, i, vertex.y);
-    let kind = vertex.kind;
-    kinds[i] = letter_of(kind);
+    kinds[i] = u8::from(vertex.kind);
 }

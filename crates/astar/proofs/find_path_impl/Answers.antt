@@ -24,14 +24,14 @@ get-requires c =
     let e = c.pop_least-top.ensures.value in
     let s = popped-state _ _ _ c.pop_least-top.ensures.cells_value.1 c.pop_least-top.ensures.cells_value.0 in
     let H = popped-held _ _ _ c.pop_least-top.ensures.cells_value.1 _ _ _ _ _ c.outer.invariant.1 c.pop_least-top.ensures.cells_value.2 in
-    (going-in _ _ w _ _ _ _ K _ _ e s _ c.in-At.is, omega (arith, H.room))
+    (going-in _ _ w _ _ _ _ K _ _ e s _ c.in-Some.is, omega (arith, H.room))
 
 pub expand-requires : goal.expand-requires
 expand-requires c = let K = c.outer.invariant.0 in
     let w = roads _ c.requires.ready.0 in
     let e = c.pop_least-top.ensures.value in
     let s = popped-state _ _ _ c.pop_least-top.ensures.cells_value.1 c.pop_least-top.ensures.cells_value.0 in
-    let H = popped-held _ _ _ c.pop_least-top.ensures.cells_value.1 _ _ _ _ _ c.outer.invariant.1 c.pop_least-top.ensures.cells_value.2 in record { ready = c.requires.ready; u_lt_n = (going-in _ _ w _ _ _ _ K _ _ e s _ c.in-At.is, going-low _ _ w _ _ _ _ K _ _ e s _ c.in-At.is, going-pred _ _ w _ _ _ _ K _ _ e s _ c.in-At.is, c.requires.cells_value.4); held = H }
+    let H = popped-held _ _ _ c.pop_least-top.ensures.cells_value.1 _ _ _ _ _ c.outer.invariant.1 c.pop_least-top.ensures.cells_value.2 in record { ready = c.requires.ready; u_lt_n = (going-in _ _ w _ _ _ _ K _ _ e s _ c.in-Some.is, going-low _ _ w _ _ _ _ K _ _ e s _ c.in-Some.is, going-pred _ _ w _ _ _ _ K _ _ e s _ c.in-Some.is, c.requires.cells_value.4); held = H }
 
 pub outer-smaller : goal.outer-smaller
 outer-smaller c =
@@ -40,7 +40,7 @@ outer-smaller c =
     let e = c.pop_least-top.ensures.value in
     let s = popped-state _ _ _ c.pop_least-top.ensures.cells_value.1 c.pop_least-top.ensures.cells_value.0 in
     let H = popped-held _ _ _ c.pop_least-top.ensures.cells_value.1 _ _ _ _ _ c.outer.invariant.1 c.pop_least-top.ensures.cells_value.2 in
-    going_less _ _ w _ _ _ _ K _ _ e s _ c.in-At.is (marked-no _ _ _ H.ends _ (going-in _ _ w _ _ _ _ K _ _ e s _ c.in-At.is) _ c.get.ensures c.if-get-ne0.false) _ c.expand.ensures.cells_value
+    going_less _ _ w _ _ _ _ K _ _ e s _ c.in-Some.is (marked-no _ _ _ H.ends _ (going-in _ _ w _ _ _ _ K _ _ e s _ c.in-Some.is) _ c.get.ensures c.if-get-ne0.false) _ c.expand.ensures.cells_value
 
 pub outer-preserved : goal.outer-preserved
 outer-preserved c =
@@ -49,24 +49,24 @@ outer-preserved c =
     let e = c.pop_least-top.ensures.value in
     let s = popped-state _ _ _ c.pop_least-top.ensures.cells_value.1 c.pop_least-top.ensures.cells_value.0 in
     let H = popped-held _ _ _ c.pop_least-top.ensures.cells_value.1 _ _ _ _ _ c.outer.invariant.1 c.pop_least-top.ensures.cells_value.2 in
-    (going_on _ _ w _ _ _ _ K _ _ e s _ c.in-At.is (marked-no _ _ _ H.ends _ (going-in _ _ w _ _ _ _ K _ _ e s _ c.in-At.is) _ c.get.ensures c.if-get-ne0.false) _ c.expand.ensures.cells_value, c.expand.ensures.held_2, c.expand.auto.cells ∙ c.pop_least-top.auto.cells ∙ c.outer.invariant.2, c.expand.auto.tree ∙ c.pop_least-top.auto.tree ∙ c.outer.invariant.3)
+    (going_on _ _ w _ _ _ _ K _ _ e s _ c.in-Some.is (marked-no _ _ _ H.ends _ (going-in _ _ w _ _ _ _ K _ _ e s _ c.in-Some.is) _ c.get.ensures c.if-get-ne0.false) _ c.expand.ensures.cells_value, c.expand.ensures.held_2, c.expand.auto.cells ∙ c.pop_least-top.auto.cells ∙ c.outer.invariant.2, c.expand.auto.tree ∙ c.pop_least-top.auto.tree ∙ c.outer.invariant.3)
 
-pub shape_of-cells-in-Empty : goal.shape_of-cells-in-Empty
-shape_of-cells-in-Empty c =
+pub shape_of-cells-in-None : goal.shape_of-cells-in-None
+shape_of-cells-in-None c =
     c.pop_least-top.auto.cells ∙ c.outer.invariant.2 ∙ c.begin.auto.cells
 
-pub shape_of-tree-in-Empty : goal.shape_of-tree-in-Empty
-shape_of-tree-in-Empty c =
+pub shape_of-tree-in-None : goal.shape_of-tree-in-None
+shape_of-tree-in-None c =
     c.pop_least-top.auto.tree ∙ c.outer.invariant.3 ∙ c.begin.auto.tree
 
-pub returns-in-Empty : goal.returns-in-Empty
-returns-in-Empty c =
+pub returns-in-None : goal.returns-in-None
+returns-in-None c =
     let K = c.outer.invariant.0 in
     let w = roads _ c.requires.ready.0 in
     let e = c.pop_least-top.ensures.value in
     let s = popped-state _ _ _ c.pop_least-top.ensures.cells_value.1 c.pop_least-top.ensures.cells_value.0 in
     let H = popped-held _ _ _ c.pop_least-top.ensures.cells_value.1 _ _ _ _ _ c.outer.invariant.1 c.pop_least-top.ensures.cells_value.2 in
-    going-empty _ _ w _ _ _ _ K _ _ e s c.in-Empty.is
+    going-empty _ _ w _ _ _ _ K _ _ e s c.in-None.is
 
 pub shape_of-cells-then-get-ne0 : goal.shape_of-cells-then-get-ne0
 shape_of-cells-then-get-ne0 c =
@@ -83,4 +83,4 @@ returns-then-get-ne0 c =
     let e = c.pop_least-top.ensures.value in
     let s = popped-state _ _ _ c.pop_least-top.ensures.cells_value.1 c.pop_least-top.ensures.cells_value.0 in
     let H = popped-held _ _ _ c.pop_least-top.ensures.cells_value.1 _ _ _ _ _ c.outer.invariant.1 c.pop_least-top.ensures.cells_value.2 in
-    going-hit _ _ w _ _ _ _ K _ _ e s _ c.in-At.is (marked-yes _ _ _ H.ends _ (going-in _ _ w _ _ _ _ K _ _ e s _ c.in-At.is) _ c.get.ensures c.if-get-ne0.true)
+    going-hit _ _ w _ _ _ _ K _ _ e s _ c.in-Some.is (marked-yes _ _ _ H.ends _ (going-in _ _ w _ _ _ _ K _ _ e s _ c.in-Some.is) _ c.get.ensures c.if-get-ne0.true)

@@ -1,19 +1,11 @@
--- The entries before v have the word; no other column changed.
-use native.Mathlib.Omega.{arith}
-use Rattle.columns.proofs.Laws.{filled_none, filled_on, filled-all}
+use Rattle.std.proofs.Common.{◌≡◌, ◌+◌, ◌-◌, ◌*◌, arith, length, take, drop, length-drop}
+use Rattle.std.proofs.lemmas.List.{length-take-le}
+use Rattle.columns.proofs.Laws.{column-fill, column-fill-only}
 use Rattle.columns.proofs.fill.Goals as goal
 
-pub loop-v-init : goal.loop-v-init
-loop-v-init c = (omega arith, filled_none _ _ _ _)
-
-pub put-requires : goal.put-requires
-put-requires c = (c.loop-v-test.true, rw c.loop-v.invariant.1.only.long c.requires)
-
-pub loop-v-preserved : goal.loop-v-preserved
-loop-v-preserved c = (omega (arith, c.loop-v-test.true), filled_on _ _ _ _ _ _ _ c.loop-v-test.true c.loop-v.invariant.1 c.put.ensures.0 c.put.ensures.1)
-
-pub shape_of-list : goal.shape_of-list
-shape_of-list c = c.loop-v.invariant.1.only.long
-
 pub returns : goal.returns
-returns c = (filled-all _ _ _ _ _ _ c.loop-v-test.false c.loop-v.invariant.1, c.loop-v.invariant.1.only)
+returns c =
+    let k : c.args.w * c.args.n + c.args.n - c.args.w * c.args.n ≡ c.args.n = omega arith in
+    let size : length (take (c.args.w * c.args.n + c.args.n - c.args.w * c.args.n) (drop (c.args.w * c.args.n) c.args.list.now)) ≡ c.args.n = rw k (length-take-le c.args.n (drop (c.args.w * c.args.n) c.args.list.now) (omega (arith, length-drop (c.args.w * c.args.n) c.args.list.now))) in
+    let e = rw size at (c.fill.ensures.after (λ y h. h)) in
+    (column-fill _ _ _ _ _ c.requires _ k e, column-fill-only _ _ _ _ _ c.requires _ k e)

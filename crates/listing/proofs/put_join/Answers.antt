@@ -6,22 +6,6 @@ use Rattle.listing.specs.Listing.{join_line}
 use Rattle.listing.proofs.Pieces.{join-pieces, join-room, put_3}
 use Rattle.listing.proofs.put_join.Goals as goal
 
-pub put_byte-word-requires : goal.put_byte-word-requires
-unfolding join_line
-put_byte-word-requires c = let r = c.args in omega (arith, c.requires, join-room (106 ∷ []) (digits r.v) (digits r.e) r.letter)
-
-pub put_pair-pair-requires : goal.put_pair-pair-requires
-unfolding join_line
-put_pair-pair-requires c =
-    let r = c.args in
-    omega (arith, c.requires, join-room (106 ∷ []) (digits r.v) (digits r.e) r.letter, c.put_byte-word.ensures.next, c.put_byte-word.auto.buf)
-
-pub put_letter-requires : goal.put_letter-requires
-unfolding join_line
-put_letter-requires c =
-    let r = c.args in
-    omega (arith, c.requires, join-room (106 ∷ []) (digits r.v) (digits r.e) r.letter, c.put_byte-word.ensures.next, c.put_byte-word.auto.buf, c.put_pair-pair.ensures.next, c.put_pair-pair.auto.buf)
-
 pub returns : goal.returns
 unfolding join_line
 returns c =

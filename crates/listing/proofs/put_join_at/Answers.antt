@@ -21,16 +21,16 @@ module _ (J : List ℕ) (first v r w : ℕ) (is : w ≡ get_or J (r * 3) 0) wher
     unfolding join_at
     is-line = rw (← is, eq-eqb _ _ same, ← at-l, ← at_a, ← at-e)
 
-pub returns-then-vertex-first : goal.returns-then-vertex-first
-returns-then-vertex-first c = other _ _ _ _ _ c.word_at-vertex.ensures _ _ (omega arith) (λ e. omega arith)
+pub returns-then-get_or-net : goal.returns-then-get_or-net
+returns-then-get_or-net c = other _ _ _ _ _ c.get_or.ensures _ _ (omega arith) (λ e. omega arith)
 
 pub put_join-requires : goal.put_join-requires
 put_join-requires c =
     let s = c.args in
-    let e = is-line s.junctions.now s.first s.v s.r _ c.word_at-vertex.ensures (omega arith) _ _ _ c.less-e.ensures c.word_at.ensures c.word_at-2.ensures in
+    let e = is-line s.page.junctions.now s.net.first s.v s.r _ c.get_or.ensures (omega arith) _ _ _ c.saturating_sub-e.ensures c.get_or-2.ensures c.get_or-3.ensures in
     omega (arith, c.requires.r_in_bounds, ap length e)
 
 pub returns : goal.returns
 returns c =
     let s = c.args in
-    rw (is-line s.junctions.now s.first s.v s.r _ c.word_at-vertex.ensures (omega arith) _ _ _ c.less-e.ensures c.word_at.ensures c.word_at-2.ensures) c.put_join.ensures
+    rw (is-line s.page.junctions.now s.net.first s.v s.r _ c.get_or.ensures (omega arith) _ _ _ c.saturating_sub-e.ensures c.get_or-2.ensures c.get_or-3.ensures) c.put_join.ensures

@@ -1,6 +1,6 @@
 -- A vertex's junctions a turn.
 use native.Mathlib.Omega.{arith}
-use Rattle.listing.proofs.Writing.{writing_begins, writing-room, writing-on, written_all}
+use Rattle.listing.proofs.Writing.{writing_begins, writing-room, writing-on}
 use Rattle.listing.proofs.put_joins.Goals as goal
 
 pub loop-v-init : goal.loop-v-init
@@ -11,9 +11,3 @@ put_joins_of-next-requires c = writing-room c.loop-v.invariant (omega arith)
 
 pub loop-v-preserved : goal.loop-v-preserved
 loop-v-preserved c = writing-on c.loop-v.invariant _ _ (omega arith) c.put_joins_of-next.ensures c.put_joins_of-next.auto.buf
-
-pub shape_of-buf : goal.shape_of-buf
-shape_of-buf c = c.loop-v.invariant.long
-
-pub returns : goal.returns
-returns c = written_all c.loop-v.invariant (omega arith)

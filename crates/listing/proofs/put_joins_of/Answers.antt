@@ -16,9 +16,6 @@ pub loop-j-preserved : goal.loop-j-preserved
 unfolding join_from
 loop-j-preserved c = writing-on c.loop-j.invariant _ _ (omega arith) c.put_join_at-next.ensures c.put_join_at-next.auto.buf
 
-pub shape_of-buf : goal.shape_of-buf
-shape_of-buf c = c.loop-j.invariant.long
-
 pub returns : goal.returns
 unfolding joins_of
 returns c = written_all c.loop-j.invariant (omega arith)

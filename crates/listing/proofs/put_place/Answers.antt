@@ -3,11 +3,5 @@ use lib.ListN.{length-append}
 use Rattle.decimals.proofs.Written.{put_then}
 use Rattle.listing.proofs.put_place.Goals as goal
 
-pub put_step_field-next-requires : goal.put_step_field-next-requires
-put_step_field-next-requires c = omega (arith, simp length-append at c.requires)
-
-pub put_step_field-requires : goal.put_step_field-requires
-put_step_field-requires c = omega (arith, simp length-append at c.requires, c.put_step_field-next.ensures.next, c.put_step_field-next.auto.buf)
-
 pub returns : goal.returns
 returns c = put_then _ _ _ _ _ _ _ _ c.put_step_field-next.ensures c.put_step_field.ensures (omega (arith, simp length-append at c.requires))

@@ -6,7 +6,7 @@ use native.Mathlib.Omega.{arith}
 use lib.ListN.{length, get_or}
 use Rattle.decimals.specs.Write.{digits, signed, Put}
 use Rattle.listing.specs.Listing.{line, vertex_line}
-use Rattle.listing.proofs.Writing.{writing_begins, writing-room, writing-on, written_all}
+use Rattle.listing.proofs.Writing.{writing_begins, writing-room, writing-on}
 use Rattle.listing.proofs.put_vertices.Goals as goal
 
 -- the line that is written is the vertex's
@@ -25,13 +25,7 @@ pub loop-k-init : goal.loop-k-init
 loop-k-init c = writing_begins _ _ _ _ c.requires
 
 pub put_vertex-next-requires : goal.put_vertex-next-requires
-put_vertex-next-requires c = room _ _ _ _ _ _ _ _ _ _ (writing-room c.loop-k.invariant (omega arith)) c.coord.ensures c.coord-in-loop-k.ensures c.letter_at.ensures
+put_vertex-next-requires c = room _ _ _ _ _ _ _ _ _ _ (writing-room c.loop-k.invariant (omega arith)) c.coord.ensures c.coord-in-loop-k.ensures c.get_or-letter.ensures
 
 pub loop-k-preserved : goal.loop-k-preserved
-loop-k-preserved c = writing-on c.loop-k.invariant _ _ (omega arith) (is-line _ _ _ _ _ _ _ _ _ _ _ _ c.put_vertex-next.ensures c.coord.ensures c.coord-in-loop-k.ensures c.letter_at.ensures) c.put_vertex-next.auto.buf
-
-pub shape_of-buf : goal.shape_of-buf
-shape_of-buf c = c.loop-k.invariant.long
-
-pub returns : goal.returns
-returns c = written_all c.loop-k.invariant (omega arith)
+loop-k-preserved c = writing-on c.loop-k.invariant _ _ (omega arith) (is-line _ _ _ _ _ _ _ _ _ _ _ _ c.put_vertex-next.ensures c.coord.ensures c.coord-in-loop-k.ensures c.get_or-letter.ensures) c.put_vertex-next.auto.buf

@@ -7,9 +7,6 @@ use Rattle.listing.proofs.Pieces.{pair-room}
 use Rattle.listing.proofs.Room.{refused-room, refused-put, first}
 use Rattle.listing.proofs.write_refused.Goals as goal
 
-pub put_bytes-word-requires : goal.put_bytes-word-requires
-put_bytes-word-requires c = omega (arith, c.requires)
-
 pub put_pair-pair-requires : goal.put_pair-pair-requires
 unfolding refused_line
 put_pair-pair-requires c =

@@ -1,12 +1,8 @@
 -- A store changes one leaf of the tree.
-use native.Mathlib.Omega.{arith}
+use Rattle.std.proofs.Common.{arith}
 use Rattle.columns.proofs.Laws.{column-long}
 use Rattle.queue.proofs.Steps.{few-of, tree_of, put_of}
 use Rattle.queue.proofs.put.Goals as goal
-
-pub put-requires : goal.put-requires
-put-requires c =
-    (c.requires.1, omega (arith, c.requires.2))
 
 pub key-requires : goal.key-requires
 key-requires c =
