@@ -1,102 +1,45 @@
--- Anchors laid row by row into the lent lists.
+-- Anchors laid row by row into a list.
 --     pushed                  an anchor after the first n
+--     row-at                  a row among the rows
 --     key-room, keys-room     the room that a row or a key asks is there, if it is there for all
 use mathlib.Core.Path.{◌≡◌, refl, sym, ap, ◌∙◌}
 use mathlib.Core.Bool.{Bool, true, false, cond}
-use mathlib.Core.List.{List, [], ◌∷◌}
+use mathlib.Core.List.{List, [], ◌∷◌, ◌++◌}
 use Prim.Native.Nat.{ℕ, zero, suc, ◌+◌, ◌-◌, ◌*◌, ◌<◌, ◌≤◌}
 use native.Mathlib.Omega.{arith}
 use native.Mathlib.Numerals.{add-one}
-use borrow.Author.Tests.{eq-eqb, ne_eqb}
-use lib.Dec.{eqb}
-use lib.IntN.{ℤ}
-use lib.ListN.{length, get_or, set, length-set, length-append}
-use lib.Seq.{get_or-set_same, get_or-set_other}
-use Rattle.fixed.specs.Up.{ups}
-use Rattle.fixed.proofs.Lists.{length-ups}
-use Rattle.fixed.specs.Constants.{COORDS}
-use Rattle.fixed.specs.Columns.{pick, cell, column}
-use Rattle.fixed.proofs.Columns.{length-column, column-none, column-more, before, beyond}
-use Rattle.anchors.specs.Explicit.{Columns, empty, push, takes, ways, ignored, with_row, with_key, with_keys, port_anchors, explicit, columns}
-use Rattle.anchors.specs.Records.{BOX, ROW, NET, Records}
+use lib.ListN.{length, get_or, set, take, drop, length-append, length-map}
+use lib.Seq.{length-take-le, take-suc-set}
+use Rattle.std.proofs.lemmas.List.{get_or-take, get_or-drop, map-append}
+use Rattle.std.specs.Simd.{first_chunks}
+use Rattle.fixed.specs.declared.Anchor.{Anchor}
+use Rattle.anchors.specs.Explicit.{Columns, push, takes, ways, ignored, with_row, with_key, with_keys, port_anchors, explicit, columns}
+use Rattle.anchors.specs.Records.{ROW, NET, Records}
 
-pub long : (n : ℕ) (l : List ℤ) → length (columns n l).xs ≡ n
-long n l = length-column 0 n l
+pub long : (n : ℕ) (l : List Anchor) → n ≤ length l → length (columns (take n l)).xs ≡ n
+long n l h = length-map (take n l) _ ∙ length-take-le n l h
 
-pub none_laid : (l : List ℤ) → columns 0 l ≡ empty
-none_laid l = rw (column-none 0 l, column-none 2560 l, column-none 5120 l, column-none 7680 l)
-
--- an anchor stored at the index n of each column
-module _ (n : ℕ) (w : List ℕ) (x y d b : ℕ) (h : n < COORDS) (room : COORDS * 4 ≤ length w) where
-  abbrev w1 : List ℕ
-  w1 = set w n x
-
-  abbrev w2 : List ℕ
-  w2 = set w1 (2560 + n) y
-
-  abbrev w3 : List ℕ
-  w3 = set w2 (5120 + n) d
-
-  abbrev w4 : List ℕ
-  w4 = set w3 (7680 + n) b
-
-  kept-0 : pick (cell 0) n w4 ≡ pick (cell 0) n w
-  kept-0 = beyond n w3 (7680 + n) b 0 (omega arith) ∙ beyond n w2 (5120 + n) d 0 (omega arith) ∙ beyond n w1 (2560 + n) y 0 (omega arith) ∙ beyond n w n x 0 (omega arith)
-
-  kept-1 : pick (cell 2560) n w4 ≡ pick (cell 2560) n w
-  kept-1 = beyond n w3 (7680 + n) b 2560 (omega arith) ∙ beyond n w2 (5120 + n) d 2560 (omega arith) ∙ beyond n w1 (2560 + n) y 2560 (omega arith) ∙ before n w n x 2560 (omega arith)
-
-  kept-2 : pick (cell 5120) n w4 ≡ pick (cell 5120) n w
-  kept-2 = beyond n w3 (7680 + n) b 5120 (omega arith) ∙ beyond n w2 (5120 + n) d 5120 (omega arith) ∙ before n w1 (2560 + n) y 5120 (omega arith) ∙ before n w n x 5120 (omega arith)
-
-  kept-3 : pick (cell 7680) n w4 ≡ pick (cell 7680) n w
-  kept-3 = beyond n w3 (7680 + n) b 7680 (omega arith) ∙ before n w2 (5120 + n) d 7680 (omega arith) ∙ before n w1 (2560 + n) y 7680 (omega arith) ∙ before n w n x 7680 (omega arith)
-
-  at-0 : get_or w4 (0 + n) 0 ≡ x
-  at-0 =
-      let z : 0 + n ≡ n = omega arith in
-      rw z (get_or-set_other w3 (7680 + n) n b 0 (λ q. omega arith) ∙ get_or-set_other w2 (5120 + n) n d 0 (λ q. omega arith) ∙ get_or-set_other w1 (2560 + n) n y 0 (λ q. omega arith) ∙ get_or-set_same w n x 0 (omega arith))
-
-  at_1 : get_or w4 (2560 + n) 0 ≡ y
-  at_1 = get_or-set_other w3 (7680 + n) (2560 + n) b 0 (λ q. omega arith) ∙ get_or-set_other w2 (5120 + n) (2560 + n) d 0 (λ q. omega arith) ∙ get_or-set_same w1 (2560 + n) y 0 (simp length-set (omega arith))
-
-  at-2 : get_or w4 (5120 + n) 0 ≡ d
-  at-2 = get_or-set_other w3 (7680 + n) (5120 + n) b 0 (λ q. omega arith) ∙ get_or-set_same w2 (5120 + n) d 0 (simp length-set (omega arith))
-
-  at-3 : get_or w4 (7680 + n) 0 ≡ b
-  at-3 = get_or-set_same w3 (7680 + n) b 0 (simp length-set (omega arith))
-
-pub pushed : (n : ℕ) (l l1 l2 l3 l4 : List ℤ) (x y d b : ℕ) → n < COORDS → COORDS * 4 ≤ length l → ups l1 ≡ set (ups l) n x → ups l2 ≡ set (ups l1) (2560 + n) y → ups l3 ≡ set (ups l2) (5120 + n) d → ups l4 ≡ set (ups l3) (7680 + n) b → columns (n + 1) l4 ≡ push (columns n l) x y d b
-unfolding push column
-pushed n l l1 l2 l3 l4 x y d b h room e1 e2 e3 e4 =
-    let k : COORDS * 4 ≤ length (ups l) = omega (arith, length-ups l) in
-    let e : ups l4 ≡ w4 n (ups l) x y d b h k = rw (e4, e3, e2, e1) in
-    rw (column-more 0 n l4, column-more 2560 n l4, column-more 5120 n l4, column-more 7680 n l4, e, kept-0 n (ups l) x y d b h k, kept-1 n (ups l) x y d b h k, kept-2 n (ups l) x y d b h k, kept-3 n (ups l) x y d b h k, at-0 n (ups l) x y d b h k, at_1 n (ups l) x y d b h k, at-2 n (ups l) x y d b h k, at-3 n (ups l) x y d b h k)
+pub pushed : (n : ℕ) (l : List Anchor) (a : Anchor) → n < length l → columns (take (n + 1) (set l n a)) ≡ push (columns (take n l)) a.x a.y a.directions a.ignored
+unfolding push
+pushed n l a h =
+    let e : take (n + 1) (set l n a) ≡ take n l ++ (a ∷ []) = rw add-one (take-suc-set l n a h) in
+    let m = λ (f : Anchor → ℕ). map-append f (take n l) (a ∷ []) in
+    rw (e, m (λ b. b.x), m (λ b. b.y), m (λ b. b.directions), m (λ b. b.ignored))
 
 -- ---- a row
 
+-- the word j of the row k
+pub row-at : (w m k j : ℕ) (ws : List ℕ) → k < m → j < w → get_or (get_or (first_chunks w m ws) k []) j 0 ≡ get_or ws (k * w + j) 0
+row-at w zero k j ws h l = absurd (omega arith)
+row-at w (suc m) zero j ws h l =
+    let e : 0 * w + j ≡ j = omega arith in
+    rw e (get_or-take w ws j 0 l)
+row-at w (suc m) (suc k) j ws h l =
+    let e : suc k * w + j ≡ w + (k * w + j) = omega arith in
+    rw e (row-at w m k j (drop w ws) (omega arith) l ∙ get_or-drop w ws (k * w + j) 0)
+
 module _ (ends : Bool) (rows : List ℕ) (key : ℕ) where
-  pub takes-end : (k : ℕ) (t : Bool) → get_or rows (k * ROW) 0 ≡ key → ends ≡ true → t ≡ eqb (get_or rows (k * ROW + 3) 0) 0 → t ≡ takes ends rows key k
-  unfolding takes
-  takes-end k t e f q = rw (eq-eqb _ _ e, f, q)
-
-  pub takes-port : (k : ℕ) → get_or rows (k * ROW) 0 ≡ key → ends ≡ false → true ≡ takes ends rows key k
-  unfolding takes
-  takes-port k e f = rw (eq-eqb _ _ e, f)
-
-  pub takes-not : (k : ℕ) → (get_or rows (k * ROW) 0 ≡ key → ⊥) → false ≡ takes ends rows key k
-  unfolding takes
-  takes-not k e = rw (ne_eqb _ _ e)
-
   module _ (b k : ℕ) (c : Columns) where
-    pub row-taken : takes ends rows key k ≡ true → (d : ℕ) → d ≡ ways ends (get_or rows (k * ROW + 3) 0) → push c (get_or rows (k * ROW + 1) 0) (get_or rows (k * ROW + 2) 0) d b ≡ with_row ends rows key b k c
-    unfolding with_row
-    row-taken e d q = rw (e, q)
-
-    pub row-left : takes ends rows key k ≡ false → c ≡ with_row ends rows key b k c
-    unfolding with_row
-    row-left e = rw e
-
     pub row-longer : takes ends rows key k ≡ true → length (with_row ends rows key b k c).xs ≡ length c.xs + 1
     unfolding with_row push
     row-longer e = rw e (length-append c.xs (get_or rows (k * ROW + 1) 0 ∷ []))
@@ -161,30 +104,53 @@ module _ (ends : Bool) (rows : List ℕ) (key b : ℕ) (c : Columns) where
   unfolding with_key
   key-begin = refl
 
-  module _ (k : ℕ) (v : Columns) (e : v ≡ with_key ends rows key b k c) where
-    pub key-on : (u : Columns) → u ≡ with_row ends rows key b k v → u ≡ with_key ends rows key b (k + 1) c
-    key-on u q = q ∙ ap (with_row ends rows key b k) e ∙ sym (key_more ends rows key b c k)
+  module _ (m k : ℕ) (p : List (List ℕ)) (f : p ≡ first_chunks ROW m rows) (h : k < m) where
+    abbrev pub row : List ℕ
+    row = get_or p k []
 
-    pub key-asks : (m room : ℕ) → k < m → length (with_key ends rows key b m c).xs ≤ room → length (with_row ends rows key b k v).xs ≤ room
-    key-asks m room h l = rw e (key-room ends rows key b c k m room h l)
+    word : (j : ℕ) → j < ROW → get_or row j 0 ≡ get_or rows (k * ROW + j) 0
+    word j l = rw f (row-at ROW m k j rows h l)
 
-    pub key-end : (m : ℕ) → k ≡ m → v ≡ with_key ends rows key b m c
-    key-end m q = rw q at e
+    takes-at : takes ends row key 0 ≡ takes ends rows key k
+    unfolding takes
+    takes-at =
+        let e : k * ROW + 0 ≡ k * ROW = omega arith in
+        rw (word 0 (omega arith), word 3 (omega arith), e)
+
+    module _ (l : List Anchor) (n : ℕ) (e : columns (take n l) ≡ with_key ends rows key b k c) where
+      -- a row that is taken makes the list one longer, and there is room for it
+      pub key-inside : n ≤ length l → takes ends row key 0 ≡ true → length (with_key ends rows key b m c).xs ≤ length l → n < length l
+      key-inside g t r =
+          let q = key-room ends rows key b c k m (length l) h r in
+          omega (arith, row-longer ends rows key b k (with_key ends rows key b k c) (sym takes-at ∙ t), ap (λ (v : Columns). length v.xs) e, long n l g)
+
+      pub key-taken : (d : ℕ) → n < length l → takes ends row key 0 ≡ true → d ≡ ways ends (get_or row 3 0)
+          → columns (take (n + 1) (set l n (record { x = get_or row 1 0; y = get_or row 2 0; directions = d; ignored = b }))) ≡ with_key ends rows key b (k + 1) c
+      unfolding with_row
+      key-taken d g t w =
+          pushed n l _ g ∙ rw (key_more ends rows key b c k, ← e, sym takes-at ∙ t, w, word 1 (omega arith), word 2 (omega arith), word 3 (omega arith))
+
+      pub key-left : takes ends row key 0 ≡ false → columns (take n l) ≡ with_key ends rows key b (k + 1) c
+      unfolding with_row
+      key-left t = rw (key_more ends rows key b c k, ← e, sym takes-at ∙ t)
 
 module _ (ends : Bool) (rows : List ℕ) (n : ℕ) (keys : List ℕ) (width : ℕ) (c : Columns) where
   pub keys-begin : c ≡ with_keys ends rows n keys width 0 c
   unfolding with_keys
   keys-begin = refl
 
-  module _ (i : ℕ) (v : Columns) (e : v ≡ with_keys ends rows n keys width i c) (b : ℕ) (d : b ≡ ignored ends i) where
-    pub keys_on : (u : Columns) → u ≡ with_key ends rows (get_or keys (i * width) 0) b n v → u ≡ with_keys ends rows n keys width (i + 1) c
-    keys_on u q = q ∙ rw (d, e) (sym (keys-more ends rows n keys width c i))
+  module _ (m i : ℕ) (p : List (List ℕ)) (f : p ≡ first_chunks width m keys) (h : i < m) (w : 0 < width) (v : Columns) (e : v ≡ with_keys ends rows n keys width i c)
+      (key : List ℕ) (q : key ≡ get_or p i []) (b : ℕ) (d : b ≡ ignored ends i) where
+    key-is : get_or key 0 0 ≡ get_or keys (i * width) 0
+    key-is =
+        let z : i * width + 0 ≡ i * width = omega arith in
+        rw (q, f, row-at width m i 0 keys h w, z)
 
-    pub keys-asks : (m room : ℕ) → i < m → length (with_keys ends rows n keys width m c).xs ≤ room → length (with_key ends rows (get_or keys (i * width) 0) b n v).xs ≤ room
-    keys-asks m room h l = rw (d, e) (keys-room ends rows n keys width c i m room h l)
+    pub keys_on : (u : Columns) → u ≡ with_key ends rows (get_or key 0 0) b n v → u ≡ with_keys ends rows n keys width (i + 1) c
+    keys_on u g = g ∙ rw (key-is, d, e) (sym (keys-more ends rows n keys width c i))
 
-  pub keys-end : (i m : ℕ) (v : Columns) → v ≡ with_keys ends rows n keys width i c → i ≡ m → v ≡ with_keys ends rows n keys width m c
-  keys-end i m v e q = rw q at e
+    pub keys-asks : (room : ℕ) → length (with_keys ends rows n keys width m c).xs ≤ room → length (with_key ends rows (get_or key 0 0) b n v).xs ≤ room
+    keys-asks room l = rw (key-is, d, e) (keys-room ends rows n keys width c i m room h l)
 
 -- ---- all explicit anchors
 
@@ -192,19 +158,3 @@ pub ports-room : (r : Records) (room : ℕ) → length (explicit r).xs ≤ room 
 unfolding explicit with_keys
 ports-room r room l =
     omega (arith, keys-grows true r.ends r.end_count r.nets NET (port_anchors r) 0 r.net_count (omega arith))
-
-pub explicit-by : (r : Records) (u v : Columns) → v ≡ port_anchors r → u ≡ with_keys true r.ends r.end_count r.nets NET r.net_count v → u ≡ explicit r
-unfolding explicit
-explicit-by r u v e q = rw e at q
-
-pub ports-by : (r : Records) (u : Columns) → u ≡ with_keys false r.ports r.port_count r.boxes BOX r.box_count empty → u ≡ port_anchors r
-unfolding port_anchors
-ports-by r u e = e
-
-pub ports-asked : (r : Records) (room : ℕ) → length (explicit r).xs ≤ room → length (with_keys false r.ports r.port_count r.boxes BOX r.box_count empty).xs ≤ room
-unfolding port_anchors
-ports-asked r room l = ports-room r room l
-
-pub ends_asked : (r : Records) (room : ℕ) (v : Columns) → v ≡ port_anchors r → length (explicit r).xs ≤ room → length (with_keys true r.ends r.end_count r.nets NET r.net_count v).xs ≤ room
-unfolding explicit
-ends_asked r room v e l = rw e l

@@ -1,7 +1,7 @@
 -- 01, 'Graph': 'explicit anchors: ports by box, then unported endpoints by net, all directions'. 'A port ignores its own box; other anchors ignore none.'
-use Rattle.std.specs.Prelude.{Bool, true, false, not, cond, ◌&&◌, ◌||◌, List, [], ◌∷◌, ◌++◌, ℕ, zero, suc, ◌+◌, ◌*◌, ◌<◌, eqb, ℤ, length, get_or}
-use Rattle.fixed.specs.Constants.{COORDS}
-use Rattle.fixed.specs.Columns.{column}
+use Rattle.std.specs.Prelude.{Bool, true, false, not, cond, ◌&&◌, ◌||◌, List, [], ◌∷◌, ◌++◌, ℕ, zero, suc, ◌+◌, ◌*◌, eqb, get_or}
+use Rattle.fixed.specs.declared.Anchor.{Anchor}
+use Rattle.fixed.specs.Boxes.{anchor_xs, anchor_ys, directions_of, ignored_of}
 use Rattle.nodes.specs.Graph.{none, ALL}
 use Rattle.anchors.specs.Records.{BOX, ROW, NET, Records}
 
@@ -55,10 +55,6 @@ port_anchors r = with_keys false r.ports r.port_count r.boxes BOX r.box_count em
 unfoldable pub explicit : Records → Columns
 explicit r = with_keys true r.ends r.end_count r.nets NET r.net_count (port_anchors r)
 
--- ---- in the lent list: the first n anchors; four columns of 2,560
-abbrev pub columns : ℕ → List ℤ → Columns
-columns n l = record { xs = column 0 n l; ys = column COORDS n l; dirs = column (COORDS * 2) n l; boxes = column (COORDS * 3) n l }
-
--- the l keys are there
-pub record Keyed (width l : ℕ) (keys : List ℕ) : Type 0 where
-  pub keyed : (i : ℕ) → i < l → i * width < length keys
+-- ---- in a list of anchors
+abbrev pub columns : List Anchor → Columns
+columns l = record { xs = anchor_xs l; ys = anchor_ys l; dirs = directions_of l; boxes = ignored_of l }

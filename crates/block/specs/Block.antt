@@ -1,7 +1,8 @@
 -- 01, 'Desk and page text': how the words of a block stand for the lists of a desk, and what words a record leaves that is put in or taken out.
 -- A block: an area for each kind, a count and then its rows.
-use Rattle.std.specs.Prelude.{◌≡◌, List, Bool, ◌&&◌, ℕ, ◌-◌, ◌≤◌, length}
-use Rattle.rows.specs.Rows.{part, with_part, records, key, is_in, count, put_last, taken_out, put_in}
+use Rattle.std.specs.Prelude.{◌≡◌, List, Bool, not, ◌&&◌, ℕ, ◌-◌, ◌≤◌, length, leb}
+use Rattle.std.specs.List.{list_all}
+use Rattle.rows.specs.Rows.{part, with_part, records, is_in, count, put_last, taken_out, put_in}
 use Rattle.block.specs.Sizes.{BOX_AREA, PORT_AREA, NET_AREA, END_AREA, PORTS_AT, NETS_AT, ENDS_AT, BLOCK}
 use Rattle.book.specs.Book.{Record, Lists, width, most, ok_record}
 use Rattle.book.specs.Entries.{Entry, out, back, none}
@@ -30,9 +31,13 @@ unfoldable pub lists_of : List ℕ → Lists
 lists_of blk =
     record { boxes = list_of Kind.Box blk; ports = list_of Kind.Port blk; nets = list_of Kind.Net blk; ends = list_of Kind.End blk }
 
--- a record belongs to one of those whose ids these are
-unfoldable pub listed : Kind → List ℕ → Record → List Record → Bool
-listed k is r rs = ok_record k r && is_in (key r) is
+-- a list that keeps its limit, of records that a desk may hold
+unfoldable pub ok_list : Kind → List Record → Bool
+ok_list k rs = leb (length rs) (most k) && list_all (ok_record k) rs
+
+-- an id that is not among those behind it
+unfoldable pub apart : ℕ → List ℕ → Bool
+apart id rest = not (is_in id rest)
 
 -- a block whose counts keep the limits
 pub record Counted (blk : List ℕ) : Type 0 where

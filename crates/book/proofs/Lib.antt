@@ -4,3 +4,4 @@ pub mod Keeps
 pub mod Entries
 pub mod Builds
 pub mod Renamed
+pub mod Refusals

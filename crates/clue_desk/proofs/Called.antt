@@ -1,22 +1,31 @@
--- The calls of equal coordinates are equal.
-use mathlib.Core.Path.{◌≡◌, ap}
+-- What a caller's arguments are as a call: its record's row, or its coordinates.
+use mathlib.Core.Path.{◌≡◌, refl, ap}
+use mathlib.Core.List.{List, [], ◌∷◌}
 use Prim.Native.Nat.{ℕ}
 use lib.IntN.{ℤ}
-use mathlib.Core.List.{List}
 use Rattle.fixed.specs.Up.{up}
 use Rattle.desk_search.specs.Query.{query}
 use Rattle.desk_search.specs.Search.{Outputs, desk_number, desk_outputs}
 use Rattle.book.specs.declared.Kind.{Kind}
-use Rattle.desk.specs.Calls.{box_record, point_record}
+use Rattle.desk.specs.Calls.{Call, number, words, box_record, point_record, net_record}
 use Rattle.desk.specs.Calls.Call.{add}
 use Rattle.clue_desk.specs.Calls.Outputs.{lined}
 
-pub box-call : (id : ℕ) (x₀ y₀ x₁ y₁ a₀ b₀ a₁ b₁ : ℤ) → x₀ ≡ a₀ → y₀ ≡ b₀ → x₁ ≡ a₁ → y₁ ≡ b₁
-    → add Kind.Box (box_record id x₀ y₀ x₁ y₁) ≡ add Kind.Box (box_record id a₀ b₀ a₁ b₁)
-box-call id x₀ y₀ x₁ y₁ a₀ b₀ a₁ b₁ e f g h = rw (e, f, g, h)
+pub as_called : (c d : Call) (ws w : List ℕ) (r : ℕ) → c ≡ d → (r ≡ number c ws) × (w ≡ words c ws) → (r ≡ number d ws) × (w ≡ words d ws)
+as_called c d ws w r e p = rw e at p
 
-pub point-call : (k : Kind) (id last : ℕ) (x y a b : ℤ) → x ≡ a → y ≡ b → add k (point_record id x y last) ≡ add k (point_record id a b last)
-point-call k id last x y a b e f = rw (e, f)
+pub box-call : (id a b c d : ℕ) (x0 y0 x1 y1 : ℤ) → a ≡ up x0 → b ≡ up y0 → c ≡ up x1 → d ≡ up y1
+    → add Kind.Box (id ∷ a ∷ b ∷ c ∷ d ∷ []) ≡ add Kind.Box (box_record id x0 y0 x1 y1)
+unfolding box_record
+box-call id a b c d x0 y0 x1 y1 e f g h = rw (e, f, g, h)
+
+pub point-call : (k : Kind) (id a b m : ℕ) (x y : ℤ) → a ≡ up x → b ≡ up y → add k (id ∷ a ∷ b ∷ m ∷ []) ≡ add k (point_record id x y m)
+unfolding point_record
+point-call k id a b m x y e f = rw (e, f)
+
+pub net-call : (id : ℕ) → add Kind.Net (id ∷ []) ≡ add Kind.Net (net_record id)
+unfolding net_record
+net-call id = refl
 
 pub search-called : (ws : List ℕ) (o p : Outputs) (r prune : ℕ) (x y a b : ℤ) (ex ey : List ℤ) → x ≡ a → y ≡ b
     → (r ≡ desk_number ws o (query prune (up x) (up y) ex ey)) × (p ≡ desk_outputs ws o (query prune (up x) (up y) ex ey))

@@ -23,10 +23,9 @@ use Rattle.desk.proofs.Decode.{ready-emptied}
 use Rattle.page_line.specs.Records.{Line, entry, malformed}
 use Rattle.page_line.specs.Lines.{text_lines}
 use Rattle.page_line.proofs.Wide.{Wide, AllWide, wide-lines}
-use Rattle.page_text.specs.Reading.{takes_in, takes}
+use Rattle.page_text.specs.Reading.{Step, takes_in, takes}
 use Rattle.page_text.specs.Words.{leaves, onward_words, feed_words, text_words, is_lent, read_words, REFUSAL}
-use Rattle.page_text.specs.declared.Step.{Step}
-use Rattle.page_text.specs.declared.Step.TheVariants.{Went, Bad}
+use Rattle.std.specs.Prelude.{Result, Ok, Err}
 use Rattle.page_text.proofs.Turns.{After, after, bad-went, step-0}
 use Rattle.page_text.proofs.Limits.{left-bad}
 
@@ -52,7 +51,7 @@ module _ (k : Kind) (r : Record) (ws : List ℕ) (ready : Ready ws) (hw : length
       rw e
       (Parts.put_rest 1 BLOCK (with_row k r (block ws)) ws (counted-with k (block ws) ready.counted r hw has_room).long (omega arith) DESK (omega arith))
 
-rest-line : (x : Line) (ws : List ℕ) → Ready ws → Wide x → takes x (lists_of (block ws)) ≡ Went → drop DESK (leaves x ws) ≡ drop DESK ws
+rest-line : (x : Line) (ws : List ℕ) → Ready ws → Wide x → takes x (lists_of (block ws)) ≡ Ok tt → drop DESK (leaves x ws) ≡ drop DESK ws
 unfolding takes_in
 rest-line (entry k r) ws ready hw t = rest-taken k r ws ready hw (step-0 (take_number k r (lists_of (block ws))) t)
 rest-line malformed ws ready hw t = bad-went 0 t
@@ -64,8 +63,8 @@ rest-feed ws (x ∷ xs) ready w = go (takes x (lists_of (block ws))) refl (λ a.
   where
     go : (s : Step) → takes x (lists_of (block ws)) ≡ s → (After x ws (leaves x ws) → drop DESK (feed_words (leaves x ws) xs) ≡ drop DESK (leaves x ws))
         → drop DESK (onward_words s (leaves x ws) (feed_words (leaves x ws) xs)) ≡ drop DESK ws
-    go Went t ih = ih (after x ws ready w.0 t) ∙ rest-line x ws ready w.0 t
-    go (Bad n) t ih = rest-emptied (leaves x ws) ∙ ap (drop DESK) (left-bad x ws n t)
+    go (Ok v) t ih = ih (after x ws ready w.0 t) ∙ rest-line x ws ready w.0 t
+    go (Err n) t ih = rest-emptied (leaves x ws) ∙ ap (drop DESK) (left-bad x ws n t)
 
 rest-text : (text ws : List ℕ) → DESK ≤ length ws → drop DESK (text_words text ws) ≡ drop DESK ws
 unfolding text_words

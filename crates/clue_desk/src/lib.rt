@@ -3,6 +3,7 @@
 
 ghost use Rattle.std.specs.Prelude.{◌≡◌};
 ghost use Rattle.book.specs.declared.Kind.{Kind};
+ghost use Rattle.book.specs.Refusals.{number_of};
 ghost use Rattle.desk.specs.Calls.{box_record, point_record, net_record};
 ghost use Rattle.desk.specs.Calls.Call.{add, retire, undo as undo_call};
 ghost use Rattle.clue_desk.specs.Calls.{number, words, outputs};
@@ -10,74 +11,81 @@ ghost use Rattle.clue_desk.specs.Calls.Call.{edit, read};
 ghost use Rattle.clue_desk.specs.Calls.Outputs.{refused};
 ghost use Rattle.clue_desk.specs.Views.{search_call, line_left, layout_call, drawing_left};
 
-// Reads a page text: 0, or 16 with the 1-based line and the inner number, or 1 if the desk or the refusal's words are lent too small.
-pub fn read_text(desk: &mut [u32], text: &[u8], refusal: &mut [u32]) -> u32
-    ensures value { result ≡ number (read text.now refusal.old) desk.old }
+use book::{Kind, Refusal};
+use fixed::up;
+
+// Reads a page text, unless the desk or the refusal's words are lent too small. A line that does not go is told in the refusal's first two words, its 1-based
+// number and the inner number; zeros stand behind them, or in all of them.
+pub fn read_text(desk: &mut [u32], text: &[u8], refusal: &mut [u32]) -> Result<(), Refusal>
+    ensures value { number_of result ≡ number (read text.now refusal.old) desk.old }
     ensures desk_value { desk.new ≡ words (read text.now refusal.old) desk.old }
     ensures refusal_value { refused refusal.new ≡ outputs (read text.now refusal.old) desk.old }
 {
     page_text::read_text(desk, text, refusal)
 }
 
-pub fn add_box(desk: &mut [u32], id: u32, x0: i32, y0: i32, x1: i32, y1: i32) -> u32
-    ensures value { result ≡ number (edit (add Kind.Box (box_record id x0 y0 x1 y1))) desk.old }
+pub fn add_box(desk: &mut [u32], id: u32, x0: i32, y0: i32, x1: i32, y1: i32) -> Result<(), Refusal>
+    ensures value { number_of result ≡ number (edit (add Kind.Box (box_record id x0 y0 x1 y1))) desk.old }
     ensures desk_value { desk.new ≡ words (edit (add Kind.Box (box_record id x0 y0 x1 y1))) desk.old }
 {
-    desk::add_box(desk, id, x0, y0, x1, y1)
+    let row = [id, up(x0), up(y0), up(x1), up(y1)];
+    desk::add(desk, Kind::Box, &row)
 }
 
-pub fn add_port(desk: &mut [u32], id: u32, x: i32, y: i32, directions: u32) -> u32
-    ensures value { result ≡ number (edit (add Kind.Port (point_record id x y directions))) desk.old }
+pub fn add_port(desk: &mut [u32], id: u32, x: i32, y: i32, directions: u32) -> Result<(), Refusal>
+    ensures value { number_of result ≡ number (edit (add Kind.Port (point_record id x y directions))) desk.old }
     ensures desk_value { desk.new ≡ words (edit (add Kind.Port (point_record id x y directions))) desk.old }
 {
-    desk::add_port(desk, id, x, y, directions)
+    let row = [id, up(x), up(y), directions];
+    desk::add(desk, Kind::Port, &row)
 }
 
-pub fn add_net(desk: &mut [u32], id: u32) -> u32
-    ensures value { result ≡ number (edit (add Kind.Net (net_record id))) desk.old }
+pub fn add_net(desk: &mut [u32], id: u32) -> Result<(), Refusal>
+    ensures value { number_of result ≡ number (edit (add Kind.Net (net_record id))) desk.old }
     ensures desk_value { desk.new ≡ words (edit (add Kind.Net (net_record id))) desk.old }
 {
-    desk::add_net(desk, id)
+    desk::add(desk, Kind::Net, &[id])
 }
 
-pub fn add_end(desk: &mut [u32], net: u32, x: i32, y: i32, mark: u32) -> u32
-    ensures value { result ≡ number (edit (add Kind.End (point_record net x y mark))) desk.old }
+pub fn add_end(desk: &mut [u32], net: u32, x: i32, y: i32, mark: u32) -> Result<(), Refusal>
+    ensures value { number_of result ≡ number (edit (add Kind.End (point_record net x y mark))) desk.old }
     ensures desk_value { desk.new ≡ words (edit (add Kind.End (point_record net x y mark))) desk.old }
 {
-    desk::add_end(desk, net, x, y, mark)
+    let row = [net, up(x), up(y), mark];
+    desk::add(desk, Kind::End, &row)
 }
 
-pub fn retire_box(desk: &mut [u32], id: u32) -> u32
-    ensures value { result ≡ number (edit (retire Kind.Box id)) desk.old }
+pub fn retire_box(desk: &mut [u32], id: u32) -> Result<(), Refusal>
+    ensures value { number_of result ≡ number (edit (retire Kind.Box id)) desk.old }
     ensures desk_value { desk.new ≡ words (edit (retire Kind.Box id)) desk.old }
 {
-    desk::retire_box(desk, id)
+    desk::retire(desk, Kind::Box, id)
 }
 
-pub fn retire_port(desk: &mut [u32], at: u32) -> u32
-    ensures value { result ≡ number (edit (retire Kind.Port at)) desk.old }
+pub fn retire_port(desk: &mut [u32], at: u32) -> Result<(), Refusal>
+    ensures value { number_of result ≡ number (edit (retire Kind.Port at)) desk.old }
     ensures desk_value { desk.new ≡ words (edit (retire Kind.Port at)) desk.old }
 {
-    desk::retire_port(desk, at)
+    desk::retire(desk, Kind::Port, at)
 }
 
-pub fn retire_net(desk: &mut [u32], id: u32) -> u32
-    ensures value { result ≡ number (edit (retire Kind.Net id)) desk.old }
+pub fn retire_net(desk: &mut [u32], id: u32) -> Result<(), Refusal>
+    ensures value { number_of result ≡ number (edit (retire Kind.Net id)) desk.old }
     ensures desk_value { desk.new ≡ words (edit (retire Kind.Net id)) desk.old }
 {
-    desk::retire_net(desk, id)
+    desk::retire(desk, Kind::Net, id)
 }
 
-pub fn retire_end(desk: &mut [u32], at: u32) -> u32
-    ensures value { result ≡ number (edit (retire Kind.End at)) desk.old }
+pub fn retire_end(desk: &mut [u32], at: u32) -> Result<(), Refusal>
+    ensures value { number_of result ≡ number (edit (retire Kind.End at)) desk.old }
     ensures desk_value { desk.new ≡ words (edit (retire Kind.End at)) desk.old }
 {
-    desk::retire_end(desk, at)
+    desk::retire(desk, Kind::End, at)
 }
 
 // Undoes the latest change.
-pub fn undo(desk: &mut [u32]) -> u32
-    ensures value { result ≡ number (edit undo_call) desk.old }
+pub fn undo(desk: &mut [u32]) -> Result<(), Refusal>
+    ensures value { number_of result ≡ number (edit undo_call) desk.old }
     ensures desk_value { desk.new ≡ words (edit undo_call) desk.old }
 {
     desk::undo(desk)

@@ -10,6 +10,8 @@ ghost use Rattle.clue_desk.specs.Calls.Call.{edit, read};
 ghost use Rattle.clue_desk.specs.Calls.Outputs.{refused};
 ghost use Rattle.clue_desk.specs.Views.{search_call, line_left, layout_call, drawing_left};
 
+use book::number_of;
+
 // Reads a page text: 0, or 16 with the 1-based line and the inner number, or 1 if the desk or the refusal's words are lent too small.
 #[unsafe(no_mangle)]
 pub extern "C" fn read_text(desk: &mut [u32], text: &[u8], refusal: &mut [u32]) -> u32
@@ -17,7 +19,7 @@ pub extern "C" fn read_text(desk: &mut [u32], text: &[u8], refusal: &mut [u32]) 
     ensures desk_value { desk.new ≡ words (read text.now refusal.old) desk.old }
     ensures refusal_value { refused refusal.new ≡ outputs (read text.now refusal.old) desk.old }
 {
-    clue_desk::read_text(desk, text, refusal)
+    number_of(clue_desk::read_text(desk, text, refusal))
 }
 
 #[unsafe(no_mangle)]
@@ -25,7 +27,7 @@ pub extern "C" fn add_box(desk: &mut [u32], id: u32, x0: i32, y0: i32, x1: i32, 
     ensures value { result ≡ number (edit (add Kind.Box (box_record id x0 y0 x1 y1))) desk.old }
     ensures desk_value { desk.new ≡ words (edit (add Kind.Box (box_record id x0 y0 x1 y1))) desk.old }
 {
-    clue_desk::add_box(desk, id, x0, y0, x1, y1)
+    number_of(clue_desk::add_box(desk, id, x0, y0, x1, y1))
 }
 
 #[unsafe(no_mangle)]
@@ -33,7 +35,7 @@ pub extern "C" fn add_port(desk: &mut [u32], id: u32, x: i32, y: i32, directions
     ensures value { result ≡ number (edit (add Kind.Port (point_record id x y directions))) desk.old }
     ensures desk_value { desk.new ≡ words (edit (add Kind.Port (point_record id x y directions))) desk.old }
 {
-    clue_desk::add_port(desk, id, x, y, directions)
+    number_of(clue_desk::add_port(desk, id, x, y, directions))
 }
 
 #[unsafe(no_mangle)]
@@ -41,7 +43,7 @@ pub extern "C" fn add_net(desk: &mut [u32], id: u32) -> u32
     ensures value { result ≡ number (edit (add Kind.Net (net_record id))) desk.old }
     ensures desk_value { desk.new ≡ words (edit (add Kind.Net (net_record id))) desk.old }
 {
-    clue_desk::add_net(desk, id)
+    number_of(clue_desk::add_net(desk, id))
 }
 
 #[unsafe(no_mangle)]
@@ -49,7 +51,7 @@ pub extern "C" fn add_end(desk: &mut [u32], net: u32, x: i32, y: i32, mark: u32)
     ensures value { result ≡ number (edit (add Kind.End (point_record net x y mark))) desk.old }
     ensures desk_value { desk.new ≡ words (edit (add Kind.End (point_record net x y mark))) desk.old }
 {
-    clue_desk::add_end(desk, net, x, y, mark)
+    number_of(clue_desk::add_end(desk, net, x, y, mark))
 }
 
 #[unsafe(no_mangle)]
@@ -57,7 +59,7 @@ pub extern "C" fn retire_box(desk: &mut [u32], id: u32) -> u32
     ensures value { result ≡ number (edit (retire Kind.Box id)) desk.old }
     ensures desk_value { desk.new ≡ words (edit (retire Kind.Box id)) desk.old }
 {
-    clue_desk::retire_box(desk, id)
+    number_of(clue_desk::retire_box(desk, id))
 }
 
 #[unsafe(no_mangle)]
@@ -65,7 +67,7 @@ pub extern "C" fn retire_port(desk: &mut [u32], at: u32) -> u32
     ensures value { result ≡ number (edit (retire Kind.Port at)) desk.old }
     ensures desk_value { desk.new ≡ words (edit (retire Kind.Port at)) desk.old }
 {
-    clue_desk::retire_port(desk, at)
+    number_of(clue_desk::retire_port(desk, at))
 }
 
 #[unsafe(no_mangle)]
@@ -73,7 +75,7 @@ pub extern "C" fn retire_net(desk: &mut [u32], id: u32) -> u32
     ensures value { result ≡ number (edit (retire Kind.Net id)) desk.old }
     ensures desk_value { desk.new ≡ words (edit (retire Kind.Net id)) desk.old }
 {
-    clue_desk::retire_net(desk, id)
+    number_of(clue_desk::retire_net(desk, id))
 }
 
 #[unsafe(no_mangle)]
@@ -81,7 +83,7 @@ pub extern "C" fn retire_end(desk: &mut [u32], at: u32) -> u32
     ensures value { result ≡ number (edit (retire Kind.End at)) desk.old }
     ensures desk_value { desk.new ≡ words (edit (retire Kind.End at)) desk.old }
 {
-    clue_desk::retire_end(desk, at)
+    number_of(clue_desk::retire_end(desk, at))
 }
 
 // Undoes the latest change.
@@ -90,7 +92,7 @@ pub extern "C" fn undo(desk: &mut [u32]) -> u32
     ensures value { result ≡ number (edit undo_call) desk.old }
     ensures desk_value { desk.new ≡ words (edit undo_call) desk.old }
 {
-    clue_desk::undo(desk)
+    number_of(clue_desk::undo(desk))
 }
 
 // A search from the place (x, y) to one of the ends (ex, ey), on the graph pruned (1) or not (0). The line's places, kinds (S, N, E) and directions are left in

@@ -1,23 +1,22 @@
 -- Rows, then columns.
-use mathlib.Core.Path.{◌≡◌, refl, sym, ap, ◌∙◌, subst}
-use mathlib.Core.List.{List, [], ◌∷◌}
-use Prim.Native.Nat.{ℕ, zero, suc, ◌+◌, ◌-◌, ◌/◌, ◌%◌, ◌<◌, ◌≤◌}
-use native.Mathlib.Omega.{arith}
-use lib.IntN.{ℤ}
-use lib.ListN.{length, get_or, take, drop, length-append, length-drop}
-use lib.Seq.{length-take-le}
-use Rattle.fixed.specs.Up.{ups}
-use Rattle.fixed.specs.Columns.{column}
-use Rattle.fixed.proofs.Lists.{length-ups, ups-take}
-use Rattle.fixed.proofs.Columns.{length-column, column-none, part-column}
-use Rattle.axis.specs.Axis.{edges}
-use Rattle.corridors.specs.Sizes.{SPAN, ANCHORS}
-use Rattle.corridors.specs.Grid.{Boxes, boxes, stacked}
-use Rattle.corridors.specs.Merge.{Taken, Plan, yield, corridor, fold, row_corridors, corridors, Anchors, crossed, implicit, turned}
-use Rattle.corridors.specs.Answer.{Held, Inside}
-use Rattle.corridors.specs.Lent.{plan, Laid, found, Crossed}
-use Rattle.axis.proofs.Axis.{edges-below}
+use Rattle.std.proofs.Common.{◌≡◌, refl, sym, ap, ◌∙◌, cond, ◌<◌, ◌≤◌, ℕ, zero, suc, ◌+◌, ◌-◌, ◌/◌, ◌%◌, List, [], ◌∷◌, ◌++◌, length, get_or, take, replicate, Option, None, Some, arith, add-one}
+use Rattle.std.proofs.lemmas.List.{length-append, length-map, length-take-le, append_assoc, append-nil, replicate_more, replicate-append-replicate}
+use borrow.Author.Tests.{lt-ltb, le-ltb}
+use lib.Dec.{ltb}
+use Rattle.fixed.specs.declared.Axis.TheVariants.{X, Y}
+use Rattle.fixed.specs.declared.Anchor.{Anchor}
+use Rattle.fixed.specs.declared.PaddedBox.{PaddedBox}
+use Rattle.fixed.specs.Boxes.{anchor_xs, anchor_ys, directions_of, ignored_of}
 use Rattle.fixed.specs.Steps.{middle}
+use Rattle.axis.specs.Axis.{edges}
+use Rattle.axis.proofs.Axis.{edges-below}
+use Rattle.corridors.specs.declared.row.Row.{Row}
+use Rattle.corridors.specs.Sizes as Sizes
+use Rattle.corridors.specs.Sizes.{SPAN, ANCHORS, NONE}
+use Rattle.corridors.specs.Grid.{Boxes, stacked}
+use Rattle.corridors.specs.Merge.{Taken, Plan, yield, corridor, fold, row_corridors, corridors, crossed, implicit, turned, directions}
+use Rattle.corridors.specs.Answer.{Inside, Given, Answered}
+use Rattle.corridors.specs.Lent.{Put, Laid}
 use Rattle.corridors.proofs.Folds.{fold-grows}
 use Rattle.corridors.proofs.Laying.{row-grows}
 
@@ -63,56 +62,74 @@ unfolding implicit crossed
 level_within h v xs ys =
     omega (arith, corridors-level h xs ys [] [] refl, corridors-grow v ys xs (corridors h xs ys [] []).across (corridors h xs ys [] []).along)
 
-pub crossed-full : (h v : Boxes) (xs ys : List ℕ) (r : ℕ) (p : Plan) (w : Anchors) → Laid r p (corridors h xs ys [] []) → ANCHORS < r → Crossed r w (implicit h v xs ys)
-unfolding implicit crossed
-crossed-full h v xs ys r p w d l =
-    record { full = λ z. omega (arith, d.full l, corridors-level h xs ys [] [] refl, corridors-grow v ys xs (corridors h xs ys [] []).across (corridors h xs ys [] []).along); same = λ z. absurd (omega arith) }
+-- ---- the directions
 
-pub crossed-on : (h v : Boxes) (xs ys : List ℕ) (n m r s : ℕ) (l t : List ℕ) (o o' : List ℤ) (a c : ℕ) → Laid r (plan n l o a c r) (corridors h xs ys [] []) → r ≤ ANCHORS → Laid s (plan m t o' c a s) (corridors v ys xs (column c r o) (column a r o)) → Crossed s (found r s o' a c) (implicit h v xs ys)
-unfolding implicit crossed
-crossed-on h v xs ys n m r s l t o o' a c d le e =
-    let p : plan n l o a c r ≡ corridors h xs ys [] [] = d.same le in
-    rw (← p, length-column a r o) (record { full = e.full; same = λ z. by (e.same z) })
+one-more : (n w : ℕ) → replicate n w ++ (w ∷ []) ≡ replicate (suc n) w
+one-more n w = replicate_more n w ∙ ap (λ (m : ℕ). replicate m w) (add-one n)
+
+dirs-low : (level k : ℕ) → k ≤ level → directions level k ≡ replicate k Sizes.X
+unfolding directions
+dirs-low level zero h = refl
+dirs-low level (suc k) h =
+    rw (dirs-low level k (omega arith), lt-ltb k level (omega arith)) (one-more k Sizes.X)
+
+dirs-more : (level k : ℕ) → directions level (suc k) ≡ directions level k ++ (cond (ltb k level) Sizes.X Sizes.Y ∷ [])
+unfolding directions
+dirs-more level k = refl
+
+dirs-high : (level d : ℕ) → directions level (level + d) ≡ replicate level Sizes.X ++ replicate d Sizes.Y
+dirs-high level zero =
+    let e : level + 0 ≡ level = omega arith in rw (e, append-nil (replicate level Sizes.X)) (dirs-low level level (omega arith))
+dirs-high level (suc d) = rw (add-suc' level d, dirs-more level (level + d), dirs-high level d, le-ltb (level + d) level (omega arith), append_assoc (replicate level Sizes.X) (replicate d Sizes.Y) (Sizes.Y ∷ [])) (ap (λ (l : List ℕ). replicate level Sizes.X ++ l) (one-more d Sizes.Y))
   where
-    by : plan m t o' c a s ≡ corridors v ys xs (column c r o) (column a r o) → found r s o' a c ≡ record { level = r; xs = (corridors v ys xs (column c r o) (column a r o)).across; ys = (corridors v ys xs (column c r o) (column a r o)).along }
-    by q = rw (← q)
+    add-suc' : (m n : ℕ) → m + suc n ≡ suc (m + n)
+    add-suc' m n = omega arith
 
--- the first call begins with no anchor
-pub from-none : (h : Boxes) (xs ys : List ℕ) (r : ℕ) (p : Plan) (o : List ℤ) (a c : ℕ) → Laid r p (corridors h xs ys (column a 0 o) (column c 0 o)) → Laid r p (corridors h xs ys [] [])
-from-none h xs ys r p o a c d = rw (column-none a o, column-none c o) at d
+dirs : (level k : ℕ) → level ≤ k → replicate level Sizes.X ++ replicate (k - level) Sizes.Y ≡ directions level k
+dirs level k h = let e : level + (k - level) ≡ k = omega arith in sym (rw e at (dirs-high level (k - level)))
+
+-- ---- what both axes give
+
+first-full : (h v : Boxes) (xs ys : List ℕ) → ANCHORS < length (corridors h xs ys [] []).along → ANCHORS < length (implicit h v xs ys).xs
+unfolding implicit crossed
+first-full h v xs ys l =
+    omega (arith, corridors-level h xs ys [] [] refl, corridors-level v ys xs _ _ (sym (corridors-level h xs ys [] [] refl)), corridors-grow v ys xs (corridors h xs ys [] []).across (corridors h xs ys [] []).along)
+
+module _ (bs : List PaddedBox) (xs ys : List ℕ) (r : ℕ) (s s1 : List Anchor) (rows1 : List Row) (p : Put X 0 r s s1 rows1 (corridors (stacked bs) xs ys [] [])) (long1 : ANCHORS ≤ length s1) where
+  along : anchor_xs (take r s1) ≡ (corridors (stacked bs) xs ys [] []).along
+  along = ap (λ (q : Plan). q.along) p.same
+
+  across : anchor_ys (take r s1) ≡ (corridors (stacked bs) xs ys [] []).across
+  across = ap (λ (q : Plan). q.across) p.same
+
+  long : length (anchor_xs (take r s1)) ≡ r
+  long = length-map (take r s1) (λ (a : Anchor). a.x) ∙ length-take-le r s1 (omega (arith, p.most))
+
+  second-full : ANCHORS < length (corridors (turned (stacked bs)) ys xs (anchor_ys (take r s1)) (anchor_xs (take r s1))).along → ANCHORS < length (implicit (stacked bs) (turned (stacked bs)) xs ys).xs
+  unfolding implicit crossed
+  second-full l =
+      rw (← along, ← across) (omega (arith, corridors-level (turned (stacked bs)) ys xs (anchor_ys (take r s1)) (anchor_xs (take r s1)) (rw (along, across) (sym (corridors-level (stacked bs) xs ys [] [] refl)))))
+
+  given : (k : ℕ) (s2 : List Anchor) (rows2 : List Row) → ANCHORS ≤ length s2 → Put Y r k s1 s2 rows2 (corridors (turned (stacked bs)) ys xs (anchor_ys (take r s1)) (anchor_xs (take r s1))) → Given k s2 (implicit (stacked bs) (turned (stacked bs)) xs ys)
+  unfolding implicit crossed
+  given k s2 rows2 long2 q =
+      let x : anchor_xs (take k s2) ≡ (corridors (turned (stacked bs)) ys xs (anchor_ys (take r s1)) (anchor_xs (take r s1))).across = ap (λ (g : Plan). g.across) q.same in
+      let y : anchor_ys (take k s2) ≡ (corridors (turned (stacked bs)) ys xs (anchor_ys (take r s1)) (anchor_xs (take r s1))).along = ap (λ (g : Plan). g.along) q.same in
+      let n : length (anchor_xs (take k s2)) ≡ k = length-map (take k s2) (λ (a : Anchor). a.x) ∙ length-take-le k s2 (omega (arith, q.most)) in
+      let z : r - 0 ≡ r = omega arith in
+      let d : directions_of (take k s2) ≡ replicate r Sizes.X ++ replicate (k - r) Sizes.Y = q.marks.directed ∙ ap (λ (l : List ℕ). l ++ replicate (k - r) Sizes.Y) (p.marks.directed ∙ rw z) in
+      let f : ignored_of (take k s2) ≡ replicate r NONE ++ replicate (k - r) NONE = q.marks.free ∙ ap (λ (l : List ℕ). l ++ replicate (k - r) NONE) (p.marks.free ∙ rw z) in
+      let w : r + (k - r) ≡ k = omega (arith, q.least) in
+      rw (← along, ← across) (record { few = q.most; count = sym n ∙ ap length x; place_x = x; place_y = y; directed = d ∙ (rw long (dirs r k q.least)); free = f ∙ replicate-append-replicate r (k - r) NONE ∙ ap (λ (m : ℕ). replicate m NONE) w })
+
+  pub answered : (o : Option ℕ) (s2 : List Anchor) (rows2 : List Row) → ANCHORS ≤ length s2 → Laid Y r o s1 s2 rows2 (corridors (turned (stacked bs)) ys xs (anchor_ys (take r s1)) (anchor_xs (take r s1))) → Answered o s2 (implicit (stacked bs) (turned (stacked bs)) xs ys)
+  answered None s2 rows2 h l = second-full l
+  answered (Some k) s2 rows2 h l = given k s2 rows2 h l
+
+pub answered-full : (bs : List PaddedBox) (xs ys : List ℕ) (s : List Anchor) → ANCHORS < length (corridors (stacked bs) xs ys [] []).along → Answered None s (implicit (stacked bs) (turned (stacked bs)) xs ys)
+answered-full bs xs ys s l = first-full (stacked bs) (turned (stacked bs)) xs ys l
 
 -- ---- the axis lists
 
-pub axis-is : (m : ℕ) (xs : List ℤ) (l : List ℕ) → take m (ups xs) ≡ l → ups (take m xs) ≡ l
-axis-is m xs l e = ups-take m xs ∙ e
-
-pub axis-inside : (a b : List ℕ) (n m : ℕ) (xs : List ℤ) → take m (ups xs) ≡ edges a b n → Inside n a → Inside n b → Inside (length (take m xs)) (ups (take m xs))
-axis-inside a b n m xs e ia ib =
-    let q = axis-is m xs (edges a b n) e in
-    let z : length (take m xs) ≡ length (edges a b n) = sym (length-ups (take m xs)) ∙ ap length q in
-    rw (q, z) (record { inside = edges-below 4294967295 a b n ia.inside ib.inside })
-
--- ---- the boxes' columns, lent as parts of their list
-
-pub prefix-column : (n : ℕ) (l : List ℤ) → n ≤ length l → ups (take n l) ≡ column 0 n l
-prefix-column n l r = part-column 0 n l (omega arith)
-
-pub in_stack : (n k1 k2 k3 : ℕ) (l : List ℤ) → k1 ≡ n → k2 ≡ n → k3 ≡ n → n ≤ 64 → 256 ≤ length l → (boxes n (take n l) (take k1 (drop 128 l)) (take k2 (drop 64 l)) (take k3 (drop 192 l)) ≡ stacked n l) × (boxes n (take k2 (drop 64 l)) (take k3 (drop 192 l)) (take n l) (take k1 (drop 128 l)) ≡ turned (stacked n l))
-in_stack n k1 k2 k3 l e1 e2 e3 h r =
-    let a = prefix-column n l (omega arith) in
-    let b : ups (take k1 (drop 128 l)) ≡ column 128 n l = rw e1 (part-column 128 n l (omega arith)) in
-    let c : ups (take k2 (drop 64 l)) ≡ column 64 n l = rw e2 (part-column 64 n l (omega arith)) in
-    let d : ups (take k3 (drop 192 l)) ≡ column 192 n l = rw e3 (part-column 192 n l (omega arith)) in
-    (rw (a, b, c, d), rw (a, b, c, d))
-
-pub crossed-in : (n k1 k2 k3 : ℕ) (l : List ℤ) (r : ℕ) (w : Anchors) (xs ys : List ℕ) → k1 ≡ n → k2 ≡ n → k3 ≡ n → n ≤ 64 → 256 ≤ length l → Crossed r w (implicit (boxes n (take n l) (take k1 (drop 128 l)) (take k2 (drop 64 l)) (take k3 (drop 192 l))) (boxes n (take k2 (drop 64 l)) (take k3 (drop 192 l)) (take n l) (take k1 (drop 128 l))) xs ys) → Crossed r w (implicit (stacked n l) (turned (stacked n l)) xs ys)
-crossed-in n k1 k2 k3 l r w xs ys e1 e2 e3 h q d =
-    let z = in_stack n k1 k2 k3 l e1 e2 e3 h q in
-    subst (λ (b : Boxes). Crossed r w (implicit (stacked n l) b xs ys)) z.1 (subst (λ (b : Boxes). Crossed r w (implicit b (boxes n (take k2 (drop 64 l)) (take k3 (drop 192 l)) (take n l) (take k1 (drop 128 l))) xs ys)) z.0 d)
-
-pub parts_held : (n k1 k2 k3 : ℕ) (l : List ℤ) → k1 ≡ n → k2 ≡ n → k3 ≡ n → n ≤ 64 → 256 ≤ length l → Held n (take n l) (take k1 (drop 128 l)) (take k2 (drop 64 l)) (take k3 (drop 192 l))
-parts_held n k1 k2 k3 l e1 e2 e3 h r =
-    record { from_held = omega (arith, length-take-le n l (omega arith)); to_held = part 128 k1 e1 (omega arith); low_held = part 64 k2 e2 (omega arith); high_held = part 192 k3 e3 (omega arith) }
-  where
-    part : (b k : ℕ) → k ≡ n → b + n ≤ length l → n ≤ length (take k (drop b l))
-    part b k e q = omega (arith, length-take-le k (drop b l) (omega (arith, length-drop b l)))
+pub axis-inside : (a b : List ℕ) (n : ℕ) (l : List ℕ) → l ≡ edges a b n → Inside n a → Inside n b → Inside (length l) l
+axis-inside a b n l e ia ib = rw e (record { inside = edges-below 4294967295 a b n ia.inside ib.inside })

@@ -1,11 +1,6 @@
 -- A loop that lays a plan turn by turn: what is left to do from here gives what the whole gives.
-use mathlib.Core.Path.{◌≡◌, sym, ◌∙◌}
-use Prim.Native.Nat.{ℕ, zero, suc, ◌+◌, ◌-◌, ◌<◌, ◌≤◌}
-use native.Mathlib.Omega.{arith}
-use lib.ListN.{length}
-use Rattle.corridors.specs.Sizes.{ANCHORS}
+use Rattle.std.proofs.Common.{◌≡◌, sym, ◌∙◌, ◌<◌, ◌≤◌, ℕ, zero, suc, ◌+◌, ◌-◌, length, arith}
 use Rattle.corridors.specs.Merge.{Plan, fold}
-use Rattle.corridors.specs.Lent.{Laid}
 
 -- no turn takes an anchor away
 pub record Grows (f : ℕ → Plan → Plan) : Type 0 where
@@ -33,15 +28,14 @@ pub fold-begin : (f : ℕ → Plan → Plan) (n : ℕ) (p : Plan) → Folding f 
 fold-begin f n p = let e : n - 0 ≡ n = omega arith in record { reached = omega arith; rest = rw e }
 
 module _ {f : ℕ → Plan → Plan} {n : ℕ} {p₀ p : Plan} {k : ℕ} (i : Folding f n p₀ p k) where
-  pub fold_on : {r : ℕ} {v : Plan} → k < n → Laid r v (f k p) → r ≤ ANCHORS → Folding f n p₀ v (k + 1)
-  fold_on h b l =
+  pub fold_on : k < n → {v : Plan} → v ≡ f k p → Folding f n p₀ v (k + 1)
+  fold_on h e =
       let q : n - (k + 1) ≡ n - k - 1 = omega arith in
-      record { reached = omega arith; rest = rw (q, b.same l) (sym (fold_more f k (n - k) p (omega arith)) ∙ i.rest) }
+      record { reached = omega arith; rest = rw (q, e) (sym (fold_more f k (n - k) p (omega arith)) ∙ i.rest) }
 
-  pub fold-full : {r : ℕ} {v w : Plan} → Grows f → k < n → Laid r v (f k p) → ANCHORS < r → Laid r w (fold f 0 n p₀)
-  fold-full g h b l =
-      record { full = λ z. rw (← i.rest, fold_more f k (n - k) p (omega arith)) (omega (arith, fold-grows f (k + 1) (n - k - 1) (f k p) g, b.full l)); same = λ z. absurd (omega arith) }
+  pub fold-full : (m : ℕ) → Grows f → k < n → m < length (f k p).along → m < length (fold f 0 n p₀).along
+  fold-full m g h b =
+      rw (← i.rest, fold_more f k (n - k) p (omega arith)) (omega (arith, fold-grows f (k + 1) (n - k - 1) (f k p) g))
 
-  pub fold_end : {r : ℕ} → n ≤ k → r ≤ ANCHORS → Laid r p (fold f 0 n p₀)
-  fold_end h l =
-      record { full = λ z. absurd (omega arith); same = λ z. sym (fold_done f k (n - k) p (omega arith)) ∙ i.rest }
+  pub fold_end : n ≤ k → p ≡ fold f 0 n p₀
+  fold_end h = sym (fold_done f k (n - k) p (omega arith)) ∙ i.rest

@@ -1,12 +1,11 @@
-mod Covering
-mod Rows
-mod Taking
-mod Filling
+pub mod Rows
+pub mod Filling
+pub mod Covering
+pub mod Taking
 mod Folds
-mod Laying
-pub mod Answer
+pub mod Laying
 pub mod Crossing
+pub mod Places
 pub mod Index
 pub mod Runs
-pub mod Places
 pub mod Cases

@@ -1,129 +1,154 @@
--- The rows in the lent list: what a store does to them.
-use mathlib.Core.Path.{◌≡◌, refl, sym, ap, ◌∙◌}
-use mathlib.Core.Bool.{Bool, true, false, cond}
-use mathlib.Core.List.{List, []}
-use Prim.Native.Nat.{ℕ, zero, suc, ◌+◌, ◌-◌, ◌*◌, ◌<◌, ◌≤◌}
-use native.Mathlib.Omega.{arith}
-use native.Mathlib.Nat.{not-suc-le-zero, le_of_suc-le-suc}
-use borrow.Author.Tests.{lt-ltb, le-ltb, ltb-true, ltb-false}
-use lib.Dec.{ltb}
-use lib.ListN.{length, get_or, drop, set, length-drop, length-set}
-use lib.Seq.{length-take-le, get_or-take, get_or-drop, get_or-set_same, get_or-set_other, drop-set-lt, drop-set-add, take-set-lt, take-set-le}
-use Rattle.corridors.specs.Sizes.{RUNS, WIDTH}
-use Rattle.corridors.specs.Lent.{few, part, row, table, Changed}
+-- The runs of a row: one is found, taken out, lengthened or begun.
+use Rattle.std.proofs.Common.{◌≡◌, refl, sym, ap, ◌∙◌, Bool, true, false, cond, ◌<◌, ◌≤◌, ℕ, suc, ◌+◌, ◌-◌, List, [], length, get_or, take, set, map, Some, None, arith}
+use Rattle.std.specs.List.{position, position_or_len}
+use Rattle.std.proofs.lemmas.List.{length-map, length-take-le, get_or-map, get_or-take, take-map, take-take, map-set, take_more_set, map_push}
+use Rattle.std.proofs.Math.Seq.{take-set-lt}
+use Rattle.std.proofs.lemmas.List.Recursion.{is_position_or_len}
+use borrow.Author.Tests.{lt-ltb, le-ltb, eq-eqb, ne_eqb, ltb-true, ltb-false}
+use lib.Dec.{eqb, ltb}
+use Rattle.axis.specs.Axis.{index}
 use Rattle.axis.proofs.Small.{Same, yes, no, same?}
+use Rattle.corridors.specs.declared.row.Run.{Run}
+use Rattle.corridors.specs.declared.row.Row.{Row}
+use Rattle.corridors.specs.Grid.{cells, start, end, last, ends_at, add_cell}
+use Rattle.corridors.specs.Merge.{has, swap_remove}
+use Rattle.corridors.specs.Lent.{run, same, row, table, removed}
 
-pub few-le : (c : ℕ) → few c ≤ RUNS
-unfolding few
-few-le c = by (ltb c RUNS) refl
+pub row-length : (a : Row) → length (row a) ≡ a.count
+row-length a = length-map (take a.count a.runs) run ∙ length-take-le a.count a.runs a.few
+
+-- runs are equal if their numbers are
+eqb-run : (r v : Run) → eqb (run r) (run v) ≡ same r v
+eqb-run r v = by (same? r.start v.start) (same? r.end v.end)
   where
-    by : (t : Bool) → ltb c RUNS ≡ t → cond t c RUNS ≤ RUNS
-    by true e = omega (arith, ltb-true c RUNS e)
-    by false e = omega arith
+    by : Same r.start v.start → Same r.end v.end → eqb (run r) (run v) ≡ same r v
+    by (yes e) (yes f) = rw (eq-eqb r.start v.start e, eq-eqb r.end v.end f) (eq-eqb (run r) (run v) (omega arith))
+    by (yes e) (no f) = rw (eq-eqb r.start v.start e, ne_eqb r.end v.end f) (ne_eqb (run r) (run v) (λ z. f (omega arith)))
+    by (no e) z = rw (ne_eqb r.start v.start e) (ne_eqb (run r) (run v) (λ q. e (omega (arith, r.within, v.within))))
 
-pub few-small : (c : ℕ) → c < RUNS → c ≡ few c
-unfolding few
-few-small c h = rw (lt-ltb c RUNS h)
-
-pub few-large : (c : ℕ) → RUNS ≤ c → RUNS ≡ few c
-unfolding few
-few-large c h = rw (le-ltb c RUNS h)
-
-pub few-id : (c : ℕ) → c ≤ RUNS → few c ≡ c
-few-id c h = by (same? c RUNS)
+index-place : (v : Run) (rs : List Run) → index (map run rs) (run v) ≡ position_or_len (λ r. same r v) rs
+unfolding index
+index-place v rs = is_position_or_len (λ (l : List Run). index (map run l) (run v)) (λ r. same r v) refl (λ x xs. rw (eqb-run x v) (step (same x v) (index (map run xs) (run v)))) rs
   where
-    by : Same c RUNS → few c ≡ c
-    by (yes e) = sym (few-large c (omega arith)) ∙ sym e
-    by (no n) = sym (few-small c (omega arith))
+    step : (b : Bool) (n : ℕ) → cond b 0 (suc n) ≡ cond b 0 (1 + n)
+    step true n = refl
+    step false n = omega arith
 
-pub part_length : (l : List ℕ) (i c : ℕ) → c ≤ RUNS → i * WIDTH + WIDTH ≤ length l → length (part l i c) ≡ c
-part_length l i c h r = length-take-le c (drop (i * WIDTH + 1) l) (omega (arith, length-drop (i * WIDTH + 1) l))
-
-pub part_at : (l : List ℕ) (i c j : ℕ) → j < c → get_or (part l i c) j 0 ≡ get_or l (i * WIDTH + 1 + j) 0
-part_at l i c j h = get_or-take c (drop (i * WIDTH + 1) l) j 0 h ∙ get_or-drop (i * WIDTH + 1) l j 0
-
-pub row-length : (l : List ℕ) (i : ℕ) → i * WIDTH + WIDTH ≤ length l → length (row l i) ≡ few (get_or l (i * WIDTH) 0)
-unfolding row
-row-length l i r = part_length l i _ (few-le _) r
-
-pub row_at : (l : List ℕ) (i j : ℕ) → j < few (get_or l (i * WIDTH) 0) → get_or (row l i) j 0 ≡ get_or l (i * WIDTH + 1 + j) 0
-unfolding row
-row_at l i j h = part_at l i _ j h
-
--- a store in the row i leaves the others
-pub else-kept : (l : List ℕ) (i j p a : ℕ) → (j ≡ i → ⊥) → i * WIDTH ≤ p → p < i * WIDTH + WIDTH → row (set l p a) j ≡ row l j
-unfolding row
-else-kept l i j p a n lo hi = by (ltb j i) refl
+some-place : (q n f : ℕ) → Some f ≡ cond (ltb q n) (Some q) None → (f < n) × (f ≡ q)
+some-place q n f e = by (ltb q n) refl e
   where
-    count : get_or (set l p a) (j * WIDTH) 0 ≡ get_or l (j * WIDTH) 0
-    count = get_or-set_other l p (j * WIDTH) a 0 (λ e. omega arith)
+    by : (b : Bool) → ltb q n ≡ b → Some f ≡ cond b (Some q) None → (f < n) × (f ≡ q)
+    by true t z = let g : f ≡ q = cc in (rw g (ltb-true q n t), g)
+    by false t z = cc
 
-    c : ℕ
-    c = few (get_or l (j * WIDTH) 0)
+none-place : (q n : ℕ) → None ≡ cond (ltb q n) (Some q) None → n ≤ q
+none-place q n e = by (ltb q n) refl e
+  where
+    by : (b : Bool) → ltb q n ≡ b → None ≡ cond b (Some q) None → n ≤ q
+    by true t z = cc
+    by false t z = ltb-false q n t
 
-    by : (t : Bool) → ltb j i ≡ t → part (set l p a) j (few (get_or (set l p a) (j * WIDTH) 0)) ≡ part l j (few (get_or l (j * WIDTH) 0))
-    by true e =
-        let lt = ltb-true j i e in
-        let q : p ≡ (j * WIDTH + 1) + (p - (j * WIDTH + 1)) = omega arith in
-        rw (count, q, drop-set-add (j * WIDTH + 1) l (p - (j * WIDTH + 1)) a) (take-set-le c (drop (j * WIDTH + 1) l) (p - (j * WIDTH + 1)) a (omega (arith, few-le (get_or l (j * WIDTH) 0))))
-    by false e = let le = ltb-false j i e in rw (count, drop-set-lt (j * WIDTH + 1) l p a (omega arith))
+-- the last run put in the place of the run f
+swapped : (rs : List Run) (c f w : ℕ) (d : Run) → c ≤ length rs → f < c → f ≡ index (map run (take c rs)) w → map run (take (c - 1) (set rs f (get_or rs (c - 1) d))) ≡ swap_remove (map run (take c rs)) w
+unfolding swap_remove
+swapped rs c f w d le lt e =
+    let m : length (take c rs) ≡ c = length-take-le c rs le in
+    let n : length (map run (take c rs)) ≡ c = length-map (take c rs) run ∙ m in
+    let g : get_or (map run (take c rs)) (c - 1) 0 ≡ run (get_or rs (c - 1) d) = get_or-map run (take c rs) (c - 1) d 0 (omega arith) ∙ ap run (get_or-take c rs (c - 1) d (omega arith)) in
+    let k : set (map run (take c rs)) f (run (get_or rs (c - 1) d)) ≡ map run (take c (set rs f (get_or rs (c - 1) d))) = sym (map-set run (take c rs) f (get_or rs (c - 1) d)) ∙ ap (map run) (sym (take-set-lt c rs f (get_or rs (c - 1) d) lt)) in
+    let t : take (c - 1) (map run (take c (set rs f (get_or rs (c - 1) d)))) ≡ map run (take (c - 1) (set rs f (get_or rs (c - 1) d))) = take-map run (c - 1) (take c (set rs f (get_or rs (c - 1) d))) ∙ ap (map run) (take-take (c - 1) c (set rs f (get_or rs (c - 1) d)) (omega arith)) in
+    rw (n, ← e, g, k) (sym t)
 
--- the count of the row i
-pub row_count : (l : List ℕ) (i c : ℕ) → c ≤ RUNS → i * WIDTH < length l → row (set l (i * WIDTH) c) i ≡ part l i c
-unfolding row
-row_count l i c h lt =
-    rw (get_or-set_same l (i * WIDTH) c 0 lt, few-id c h, drop-set-lt (i * WIDTH + 1) l (i * WIDTH) c (omega arith))
+module _ (a : Row) (v : Run) where
+  place : index (row a) (run v) ≡ position_or_len (λ r. same r v) (take a.count a.runs)
+  place = index-place v (take a.count a.runs)
 
--- a run of the row i
-pub part-store : (l : List ℕ) (i c q a : ℕ) → q < c → part (set l (i * WIDTH + 1 + q) a) i c ≡ set (part l i c) q a
-part-store l i c q a h = rw (drop-set-add (i * WIDTH + 1) l q a) (take-set-lt c (drop (i * WIDTH + 1) l) q a h)
+  module _ (f : ℕ) (e : Some f ≡ position (λ r. same r v) (take a.count a.runs)) where
+    found : (f < a.count) × (f ≡ index (row a) (run v))
+    found =
+        let n = length-take-le a.count a.runs a.few in
+        let z = some-place (position_or_len (λ r. same r v) (take a.count a.runs)) (length (take a.count a.runs)) f e in
+        (omega arith, z.1 ∙ sym place)
 
-pub changed-count : (l : List ℕ) (i c : ℕ) → c ≤ RUNS → i * WIDTH < length l → Changed l (set l (i * WIDTH) c) i (part l i c)
-changed-count l i c h lt =
-    record { here = row_count l i c h lt; else = λ j n. else-kept l i j (i * WIDTH) c n (omega arith) (omega arith) }
+    pub has-some : true ≡ has (row a) (run v)
+    unfolding has
+    has-some = sym (lt-ltb _ _ (omega (arith, found, row-length a)))
 
-pub changed-both : (l : List ℕ) (i c q a : ℕ) → c ≤ RUNS → q < RUNS → i * WIDTH < length l → Changed l (set (set l (i * WIDTH + 1 + q) a) (i * WIDTH) c) i (part (set l (i * WIDTH + 1 + q) a) i c)
-changed-both l i c q a h k lt =
-    record { here = row_count (set l (i * WIDTH + 1 + q) a) i c h (simp length-set lt); else = λ j n. else-kept (set l (i * WIDTH + 1 + q) a) i j (i * WIDTH) c n (omega arith) (omega arith) ∙ else-kept l i j (i * WIDTH + 1 + q) a n (omega arith) (omega arith) }
+    pub removed-some : (d : Run) → map run (take (a.count - 1) (set a.runs f (get_or a.runs (a.count - 1) d))) ≡ removed (row a) (run v)
+    unfolding removed
+    removed-some d = rw (← has-some) (swapped a.runs a.count f (run v) d a.few found.0 found.1)
 
-pub changed-run : (l : List ℕ) (i q a : ℕ) → q < few (get_or l (i * WIDTH) 0) → Changed l (set l (i * WIDTH + 1 + q) a) i (set (row l i) q a)
-unfolding row
-changed-run l i q a h =
-    let count : get_or (set l (i * WIDTH + 1 + q) a) (i * WIDTH) 0 ≡ get_or l (i * WIDTH) 0 = get_or-set_other l (i * WIDTH + 1 + q) (i * WIDTH) a 0 (λ e. omega arith) in
-    record { here = rw count (part-store l i (few (get_or l (i * WIDTH) 0)) q a h); else = λ j n. else-kept l i j (i * WIDTH + 1 + q) a n (omega arith) (omega (arith, few-le (get_or l (i * WIDTH) 0))) }
+  module _ (e : None ≡ position (λ r. same r v) (take a.count a.runs)) where
+    pub has-none : false ≡ has (row a) (run v)
+    unfolding has
+    has-none =
+        let n = length-take-le a.count a.runs a.few in
+        let z = none-place (position_or_len (λ r. same r v) (take a.count a.runs)) (length (take a.count a.runs)) e in
+        sym (le-ltb _ _ (omega (arith, place, row-length a)))
 
-pub changed-none : (l : List ℕ) (i : ℕ) → Changed l l i (row l i)
-changed-none l i = record { here = refl; else = λ j n. refl }
+    pub removed-none : row a ≡ removed (row a) (run v)
+    unfolding removed
+    removed-none = rw (← has-none)
 
-pub changed-on : {l m o : List ℕ} {i : ℕ} {r s : List ℕ} → Changed l m i r → Changed m o i s → Changed l o i s
-changed-on a b = record { here = b.here; else = λ j n. b.else j n ∙ a.else j n }
+-- ---- the cell k
 
--- ---- the table
+module _ (rs : List Run) (c k : ℕ) (d : Run) (le : c ≤ length rs) where
+  long : length (map run (take c rs)) ≡ c
+  long = length-map (take c rs) run ∙ length-take-le c rs le
 
-pub table_at : (l : List ℕ) (i m k : ℕ) → k < m → get_or (table l i m) k [] ≡ row l (i + k)
-unfolding table
-table_at l i zero k h = absurd (not-suc-le-zero h)
-table_at l i (suc m) zero h = let e : i + 0 ≡ i = omega arith in rw e
-table_at l i (suc m) (suc k) h = let e : i + suc k ≡ suc i + k = omega arith in rw e (table_at l (suc i) m k (le_of_suc-le-suc h))
+  last-run : 0 < c → last (map run (take c rs)) ≡ run (get_or rs (c - 1) d)
+  unfolding last
+  last-run h =
+      rw long (get_or-map run (take c rs) (c - 1) d 0 (omega (arith, length-take-le c rs le)) ∙ ap run (get_or-take c rs (c - 1) d (omega arith)))
 
-module _ {l o : List ℕ} {k : ℕ} {r : List ℕ} (ch : Changed l o k r) where
-  table_same : (i m : ℕ) → k < i → table o i m ≡ table l i m
-  unfolding table
-  table_same i zero h = refl
-  table_same i (suc m) h = rw (ch.else i (λ e. omega arith), table_same (suc i) m (omega arith))
+  run-end : (r : Run) → end (run r) ≡ r.end
+  run-end r = omega (arith, r.within)
 
-  table-set : (i m j : ℕ) → i + j ≡ k → j < m → table o i m ≡ set (table l i m) j r
-  unfolding table
-  table-set i zero j e h = absurd (not-suc-le-zero h)
-  table-set i (suc m) zero e h =
-      let z : i ≡ k = omega arith in
-      let here : row o i ≡ r = rw z ch.here in
-      rw (here, table_same (suc i) m (omega arith))
-  table-set i (suc m) (suc j) e h =
-      rw (ch.else i (λ z. omega arith), table-set (suc i) m j (omega arith) (le_of_suc-le-suc h))
+  -- the last run ends at k
+  pub lengthened : 0 < c → (get_or rs (c - 1) d).end ≡ k → (y : Run) → y.start ≡ (get_or rs (c - 1) d).start → y.end ≡ k + 1 → map run (take c (set rs (c - 1) y)) ≡ add_cell (map run (take c rs)) k
+  unfolding add_cell ends_at
+  lengthened h e y a b =
+      let s : map run (take c (set rs (c - 1) y)) ≡ set (map run (take c rs)) (c - 1) (run y) = ap (map run) (take-set-lt c rs (c - 1) y (omega arith)) ∙ map-set run (take c rs) (c - 1) y in
+      let q : run y ≡ run (get_or rs (c - 1) d) + 1 = omega arith in
+      rw (long, lt-ltb 0 c h, last-run h, run-end (get_or rs (c - 1) d), eq-eqb _ k e, ← q) s
 
-pub table-changed : (n : ℕ) {l o : List ℕ} {k : ℕ} {r : List ℕ} → Changed l o k r → k < n → table o 0 n ≡ set (table l 0 n) k r
-table-changed n ch h = table-set ch 0 n _ (omega arith) h
+  off : (b : Bool) → ltb 0 c ≡ b → (0 < c → (get_or rs (c - 1) d).end ≡ k → ⊥) → ends_at (map run (take c rs)) k ≡ false
+  unfolding ends_at
+  off true t n = let h = ltb-true 0 c t in rw (long, t, last-run h, run-end (get_or rs (c - 1) d), ne_eqb _ k (n h))
+  off false t n = rw (long, t)
 
-pub table-row : (l : List ℕ) (n k : ℕ) → k < n → get_or (table l 0 n) k [] ≡ row l k
-table-row l n k h = let e : 0 + k ≡ k = omega arith in table_at l 0 n k h ∙ ap (row l) e
+  -- there is none, or it does not
+  pub begun : c < length rs → (0 < c → (get_or rs (c - 1) d).end ≡ k → ⊥) → (y : Run) → run y ≡ cells k (k + 1) → map run (take (c + 1) (set rs c y)) ≡ add_cell (map run (take c rs)) k
+  unfolding add_cell
+  begun lt n y q = rw (off (ltb 0 c) refl n, ← q, take_more_set rs c y lt) (map_push run (take c rs) y)
+
+run-start : (r : Run) → start (run r) ≡ r.start
+run-start r = omega (arith, r.within)
+
+pub run-ends : (r : Run) → (start (run r) ≡ r.start) × (end (run r) ≡ r.end)
+run-ends r = (run-start r, omega (arith, r.within))
+
+-- ---- the run j, and the row k
+
+pub run_at : (a : Row) (j : ℕ) (d : Run) → j < a.count → run (get_or (take a.count a.runs) j d) ≡ get_or (row a) j 0
+run_at a j d h = sym (get_or-map run (take a.count a.runs) j d 0 (omega (arith, length-take-le a.count a.runs a.few)))
+
+pub row_at : (rows : List Row) (k : ℕ) (d : Row) → k < length rows → get_or (table rows) k [] ≡ row (get_or rows k d)
+row_at rows k d h = get_or-map row rows k d [] h
+
+pub table-set : (rows : List Row) (k : ℕ) (a : Row) → table (set rows k a) ≡ set (table rows) k (row a)
+table-set rows k a = map-set row rows k a
+
+module _ (rows : List Row) (i : ℕ) (d : Row) (h : i < length rows) (l : List Run) (e : l ≡ take (get_or rows i d).count (get_or rows i d).runs) where
+  long-run : length l ≡ (get_or rows i d).count
+  long-run = rw e (length-take-le _ _ (get_or rows i d).few)
+
+  pub runs-count : length (get_or (table rows) i []) ≡ length l
+  runs-count = rw (row_at rows i d h) (row-length (get_or rows i d) ∙ sym long-run)
+
+  pub run_in : (j : ℕ) (v : Run) → j < length l → run (get_or l j v) ≡ get_or (get_or (table rows) i []) j 0
+  run_in j v lt = rw (row_at rows i d h, e) (run_at (get_or rows i d) j v (omega (arith, long-run)))
+
+pub ruleset taking = (has-some, removed-some, has-none, removed-none)
+
+pub ruleset adding = (lengthened)

@@ -1,8 +1,9 @@
 -- 01, 'Corridors': which cells padded boxes fill, and the empty runs of a row, left to right. Along is the axis on which runs go, across the other.
 use Rattle.std.specs.Prelude.{Bool, false, cond, ◌&&◌, ◌||◌, List, [], ◌∷◌, ◌++◌, ℕ, zero, suc, ◌+◌, ◌-◌, ◌*◌, ◌/◌, ◌%◌, eqb, ltb, leb, ℤ, length, get_or, set}
-use Rattle.fixed.specs.Constants.{BOXES}
+use Rattle.fixed.specs.declared.Axis.{Axis}
+use Rattle.fixed.specs.declared.PaddedBox.{PaddedBox}
+use Rattle.fixed.specs.Boxes.{min_xs, min_ys, max_xs, max_ys, across, leasts, greatests}
 use Rattle.fixed.specs.Up.{ups}
-use Rattle.fixed.specs.Columns.{column}
 use Rattle.corridors.specs.Sizes.{SPAN}
 
 -- padded boxes: from and to along, low and high across
@@ -16,9 +17,14 @@ pub record Boxes : Type 0 where
 abbrev pub boxes : ℕ → List ℤ → List ℤ → List ℤ → List ℤ → Boxes
 boxes n a b c d = record { count = n; from = ups a; to = ups b; low = ups c; high = ups d }
 
--- the boxes in one list, four columns of 64: least x, least y, greatest x, greatest y
-abbrev pub stacked : ℕ → List ℤ → Boxes
-stacked n o = record { count = n; from = column 0 n o; to = column (BOXES * 2) n o; low = column BOXES n o; high = column (BOXES * 3) n o }
+-- a list of padded boxes, seen from the rows along an axis
+abbrev pub seen : Axis → List PaddedBox → Boxes
+seen along bs =
+    record { count = length bs; from = leasts along bs; to = greatests along bs; low = leasts (across along) bs; high = greatests (across along) bs }
+
+-- the same, from the rows along x
+abbrev pub stacked : List PaddedBox → Boxes
+stacked bs = record { count = length bs; from = min_xs bs; to = max_xs bs; low = min_ys bs; high = max_ys bs }
 
 -- the box k covers the cell that begins at (x, y): it fills the cells from its least to before its greatest coordinate
 unfoldable pub covers : Boxes → ℕ → ℕ → ℕ → Bool
@@ -69,7 +75,3 @@ row_runs b xs ys i = runs b xs (get_or ys i 0) (length xs - 1)
 unfoldable pub all_runs : Boxes → List ℕ → List ℕ → ℕ → ℕ → List (List ℕ)
 all_runs b xs ys i zero = []
 all_runs b xs ys i (suc m) = row_runs b xs ys i ∷ all_runs b xs ys (suc i) m
-
--- what a clause sees of lent edges
-abbrev pub boxes_in : ℕ → List ℤ → List ℤ → List ℤ → List ℤ → Boxes
-boxes_in n a b c d = boxes n a b c d

@@ -1,31 +1,30 @@
--- How rows and anchors stand in the lent lists, and what the functions below `generate_implicit_anchors` leave there.
-use Rattle.std.specs.Prelude.{◌≡◌, Bool, false, cond, ◌&&◌, ◌||◌, List, [], ◌∷◌, ◌++◌, ℕ, zero, suc, ◌+◌, ◌*◌, ◌<◌, ◌≤◌, ltb, leb, ℤ, length, get_or, take, drop}
-use Rattle.fixed.specs.Up.{ups}
-use Rattle.fixed.specs.Columns.{column}
-use Rattle.corridors.specs.Sizes.{RUNS, WIDTH, ANCHORS}
-use Rattle.corridors.specs.Grid.{Boxes, covers, covered, add_cell}
-use Rattle.corridors.specs.Merge.{Table, Taken, Plan, Anchors, has, swap_remove}
+-- How the rows and the anchors are lists of numbers, and what the functions below `generate_implicit_anchors` do to them.
+use Rattle.std.specs.Prelude.{◌≡◌, Bool, false, cond, ◌||◌, ◌&&◌, List, [], ◌∷◌, ◌++◌, ℕ, zero, suc, ◌+◌, ◌-◌, ◌<◌, ◌≤◌, eqb, ltb, leb, length, get_or, take, map, replicate, Option, None, Some}
+use Rattle.fixed.specs.declared.Axis.{Axis}
+use Rattle.fixed.specs.declared.Axis.TheVariants.{X, Y}
+use Rattle.fixed.specs.declared.Anchor.{Anchor}
+use Rattle.fixed.specs.Boxes.{across, anchor_xs, anchor_ys, directions_of, ignored_of}
+use Rattle.corridors.specs.declared.row.Run.{Run}
+use Rattle.corridors.specs.declared.row.Row.{Row}
+use Rattle.corridors.specs.Sizes as Sizes
+use Rattle.corridors.specs.Sizes.{ANCHORS, NONE}
+use Rattle.corridors.specs.Grid.{Boxes, cells, covered, add_cell}
+use Rattle.corridors.specs.Merge.{Table, Taken, Plan, has, swap_remove}
 
--- ---- the rows: WIDTH words a row, the count and at most RUNS runs
+-- ---- the rows
 
-unfoldable pub few : ℕ → ℕ
-few c = cond (ltb c RUNS) c RUNS
+abbrev pub run : Run → ℕ
+run r = cells r.start r.end
 
--- c runs of the row i
-abbrev pub part : List ℕ → ℕ → ℕ → List ℕ
-part l i c = take c (drop (i * WIDTH + 1) l)
+-- the derived `==`
+abbrev pub same : Run → Run → Bool
+same r v = eqb r.start v.start && eqb r.end v.end
 
-unfoldable pub row : List ℕ → ℕ → List ℕ
-row l i = part l i (few (get_or l (i * WIDTH) 0))
+abbrev pub row : Row → List ℕ
+row a = map run (take a.count a.runs)
 
-unfoldable pub table : List ℕ → ℕ → ℕ → Table
-table l i zero = []
-table l i (suc m) = row l i ∷ table l (suc i) m
-
--- only the row k has changed, to r
-pub record Changed (l m : List ℕ) (k : ℕ) (r : List ℕ) : Type 0 where
-  pub here : row m k ≡ r
-  pub else : (j : ℕ) → (j ≡ k → ⊥) → row m j ≡ row l j
+abbrev pub table : List Row → Table
+table rows = map row rows
 
 -- a row without v, if it is there
 unfoldable pub removed : List ℕ → ℕ → List ℕ
@@ -34,22 +33,16 @@ removed l v = cond (has l v) (swap_remove l v) l
 abbrev pub taken : ℕ → Table → Taken
 taken k t = record { next = k; rows = t }
 
--- ---- marks that say which of m cells are filled
-
-pub record Clear (m : ℕ) (l : List Bool) : Type 0 where
-  pub clear : (k : ℕ) → k < m → get_or l k false ≡ false
+-- ---- marks that say which cells are filled
 
 -- what was marked, and the cells that begin from f to before t
-pub record MarkedSpan (m f t : ℕ) (xs : List ℕ) (l o : List Bool) : Type 0 where
-  pub span : (k : ℕ) → k < m → get_or o k false ≡ get_or l k false || (leb f (get_or xs k 0) && ltb (get_or xs k 0) t)
-
--- what was marked, and the cells of the row at y that the box j covers
-pub record MarkedBox (m : ℕ) (b : Boxes) (y j : ℕ) (xs : List ℕ) (l o : List Bool) : Type 0 where
-  pub box : (k : ℕ) → k < m → get_or o k false ≡ get_or l k false || covers b (get_or xs k 0) y j
+abbrev pub MarkedSpan : ℕ → ℕ → List ℕ → List Bool → List Bool → Type 0
+MarkedSpan f t xs l o =
+    (k : ℕ) → k < length l → get_or o k false ≡ get_or l k false || (leb f (get_or xs k 0) && ltb (get_or xs k 0) t)
 
 -- the cells of the row at y that one of the first n boxes covers
-pub record MarkedRow (m : ℕ) (b : Boxes) (y n : ℕ) (xs : List ℕ) (o : List Bool) : Type 0 where
-  pub cell : (k : ℕ) → k < m → get_or o k false ≡ covered b (get_or xs k 0) y n
+pub record MarkedRow (b : Boxes) (y n : ℕ) (xs : List ℕ) (o : List Bool) : Type 0 where
+  pub cell : (k : ℕ) → k < length o → get_or o k false ≡ covered b (get_or xs k 0) y n
 
 -- the empty runs of the first m cells
 unfoldable pub listed : List Bool → ℕ → List ℕ
@@ -58,33 +51,46 @@ listed l (suc m) = cond (get_or l m false) (listed l m) (add_cell (listed l m) m
 
 -- ---- while anchors are laid
 
--- the rows, and the first r anchors: along lie from the word a of the list on, across from the word c on
-abbrev pub plan : ℕ → List ℕ → List ℤ → ℕ → ℕ → ℕ → Plan
-plan n l o a c r = record { rows = table l 0 n; along = column a r o; across = column c r o }
+-- the directions of an anchor of a run along an axis, and its place by the one along and the one across
+abbrev pub way : Axis → ℕ
+way X = Sizes.X
+way Y = Sizes.Y
 
--- from o to o' at most the ANCHORS words from a on and those from c on changed
-pub record Else (a c : ℕ) (o o' : List ℤ) : Type 0 where
-  pub else : (j : ℕ) → (a ≤ j → j < a + ANCHORS → ⊥) → (c ≤ j → j < c + ANCHORS → ⊥) → get_or (ups o') j 0 ≡ get_or (ups o) j 0
+abbrev pub anchor : Axis → ℕ → ℕ → Anchor
+anchor X u w = record { x = u; y = w; directions = Sizes.X; ignored = NONE }
+anchor Y u w = record { x = w; y = u; directions = Sizes.Y; ignored = NONE }
 
--- from o to o' at most the n words from d on changed
-pub record Within (d n : ℕ) (o o' : List ℤ) : Type 0 where
-  pub within : (j : ℕ) → (d ≤ j → j < d + n → ⊥) → get_or (ups o') j 0 ≡ get_or (ups o) j 0
+abbrev pub alongs : Axis → List Anchor → List ℕ
+alongs X s = anchor_xs s
+alongs Y s = anchor_ys s
 
--- a step that may find no room answers: over ANCHORS if the plan has more anchors, else their count, with the plan in the lists
-pub record Laid (r : ℕ) (v g : Plan) : Type 0 where
-  pub full : ANCHORS < r → ANCHORS < length g.along
-  pub same : r ≤ ANCHORS → v ≡ g
+-- the rows, and the anchors s: their coordinates along and across
+abbrev pub plan : Axis → List Row → List Anchor → Plan
+plan along rows s = record { rows = table rows; along = alongs along s; across = alongs (across along) s }
 
--- the same of two anchors after c
-pub record Emitted (r c u v w : ℕ) (a a' b b' : List ℕ) : Type 0 where
-  pub full : ANCHORS < r → ANCHORS < c + 2
-  pub low : r ≤ ANCHORS → a' ≡ a ++ (u ∷ v ∷ [])
-  pub side : r ≤ ANCHORS → b' ≡ b ++ (w ∷ w ∷ [])
+-- from s to t, n anchors with the axis' directions were laid that ignore no box
+pub record Directed (along : Axis) (n : ℕ) (s t : List Anchor) : Type 0 where
+  pub directed : directions_of t ≡ directions_of s ++ replicate n (way along)
+  pub free : ignored_of t ≡ ignored_of s ++ replicate n NONE
 
--- the first n anchors
-abbrev pub found : ℕ → ℕ → List ℤ → ℕ → ℕ → Anchors
-found level n o a c = record { level = level; xs = column a n o; ys = column c n o }
+-- behind the first c anchors of s two others were laid along an axis, at u and v along and at w across, if there is room
+pub record Emit (along : Axis) (c r : ℕ) (s t : List Anchor) (u v w : ℕ) : Type 0 where
+  pub count : r ≡ c + 2
+  pub most : r ≤ ANCHORS
+  pub two : take r t ≡ take c s ++ (anchor along u w ∷ anchor along v w ∷ [])
 
-pub record Crossed (n : ℕ) (v g : Anchors) : Type 0 where
-  pub full : ANCHORS < n → ANCHORS < length g.ys
-  pub same : n ≤ ANCHORS → v ≡ g
+abbrev pub Emitted : Axis → ℕ → Option ℕ → List Anchor → List Anchor → ℕ → ℕ → ℕ → Type 0
+Emitted along c None s t u v w = ANCHORS < c + 2
+Emitted along c (Some r) s t u v w = Emit along c r s t u v w
+
+-- behind the first c anchors of s others were laid: the first r of t, and the rows, are the plan g
+pub record Put (along : Axis) (c r : ℕ) (s t : List Anchor) (rows : List Row) (g : Plan) : Type 0 where
+  pub least : c ≤ r
+  pub most : r ≤ ANCHORS
+  pub same : plan along rows (take r t) ≡ g
+  pub marks : Directed along (r - c) (take c s) (take r t)
+
+-- a step that may find no room: there is none if the plan has more than ANCHORS anchors
+abbrev pub Laid : Axis → ℕ → Option ℕ → List Anchor → List Anchor → List Row → Plan → Type 0
+Laid along c None s t rows g = ANCHORS < length g.along
+Laid along c (Some r) s t rows g = Put along c r s t rows g

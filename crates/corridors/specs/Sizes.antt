@@ -12,13 +12,6 @@ CELLS = 127
 abbrev pub RUNS : ℕ
 RUNS = 64
 
--- a row in the lent table is its count and its runs; so many words are all rows
-abbrev pub WIDTH : ℕ
-WIDTH = 65
-
-abbrev pub TABLE : ℕ
-TABLE = 8255
-
 -- a run's first cell counts so many times as much as its end
 abbrev pub SPAN : ℕ
 SPAN = 256
@@ -26,9 +19,9 @@ SPAN = 256
 abbrev pub ANCHORS : ℕ
 ANCHORS = 2048
 
--- the count that says that there are more
-abbrev pub TOO_MANY : ℕ
-TOO_MANY = 2049
+-- an anchor that ignores no box
+abbrev pub NONE : ℕ
+NONE = 4294967295
 
 -- directions: 1 NegX and 2 PosX, 4 NegY and 8 PosY
 abbrev pub X : ℕ

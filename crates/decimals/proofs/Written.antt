@@ -1,12 +1,13 @@
--- What is written over a buffer: one piece behind another, the digits from the last to the first, and bytes copied one by one.
+-- What is written over a buffer: one piece behind another, the digits from the last to the first, and bytes copied.
 use mathlib.Core.Path.{◌≡◌, refl, sym, ap, ◌∙◌}
 use mathlib.Core.List.{List, [], ◌∷◌, ◌++◌, append_assoc}
 use Prim.Native.Nat.{ℕ, zero, suc, ◌+◌, ◌-◌, ◌/◌, ◌%◌, ◌≤◌, ◌<◌}
 use native.Mathlib.Omega.{arith}
 use native.Mathlib.Numerals.{add-one}
-use lib.ListN.{length, get_or, take, drop, set, length-append, length-drop, length-set, take-append-drop}
-use lib.Seq.{set_split, take-set-le, take_all, take_at, drop_at, drop-drop, length-take-le, take-suc}
+use lib.ListN.{length, take, drop, set, length-append, length-drop, length-set, take-append-drop}
+use lib.Seq.{set_split, take-set-le, take_at, drop_at, drop-drop, length-take-le}
 use borrow.Author.Tests.{lt-ltb, le-ltb}
+use borrow.Rule.Slice.PartMut.{put_mid}
 use lib.IntN.{pos, negsuc}
 use Rattle.fixed.specs.Up.{BIAS, up}
 use Rattle.decimals.specs.Bytes.{TAB}
@@ -136,30 +137,13 @@ step-low buf w at u e h hf p =
 pub field_put : (buf w ds : List ℕ) (at e : ℕ) → at + length (field ds) ≤ length buf → Put (set buf at TAB) (at + 1) ds w e → Put buf at (field ds) w e
 field_put buf w ds at e h p = put_then buf (set buf at TAB) w (TAB ∷ []) ds at (at + 1) e (put_one buf at TAB (omega arith)) p (omega arith)
 
--- bytes copied one by one
-pub record Copy (start buf s : List ℕ) (at i : ℕ) : Type 0 where
-  pub most : i ≤ length s
-  pub long : length buf ≡ length start
-  pub whole : buf ≡ written start at (take i s)
-
-pub copy-on : (start buf s : List ℕ) (at i : ℕ) → Copy start buf s at i → i < length s → at + length s ≤ length start → Copy start (set buf (at + i) (get_or s i 0)) s at (i + 1)
-copy-on start buf s at i c h hf =
-    let l : length (take i s) ≡ i = length-take-le i s (omega arith) in
-    let n : at + i < length buf = omega (arith, c.long) in
-    let p : at + i ≡ at + length (take i s) = rw l in
-    let e : written start at (take i s ++ (get_or s i 0 ∷ [])) ≡ set buf (at + i) (get_or s i 0) =
-    sym (more start at (take i s) (get_or s i 0 ∷ []) (omega arith)) ∙ rw (← c.whole, ← p) (sym (one buf (at + i) (get_or s i 0) n)) in
+-- bytes copied over a part
+pub put_part : (buf s new : List ℕ) (at n : ℕ) → new ≡ s → n ≡ length s → Put buf at s (put_mid at n buf new) (at + length s)
+unfolding written
+put_part buf s new at n e h =
     record {
-      most = omega arith;
-      long = rw length-set c.long;
-      whole = sym e ∙ ap (written start at) (sym (take-suc s i 0 h) ∙ rw (add-one i));
-    }
-
-pub copy-end : (start buf s : List ℕ) (at i : ℕ) → Copy start buf s at i → length s ≤ i → Put start at s buf (at + i)
-copy-end start buf s at i c h =
-    record {
-      bytes = c.whole ∙ ap (written start at) (take_all i s h);
-      next = omega (arith, c.most);
+      bytes = rw (e, h) (ap (λ t. take at buf ++ (s ++ t)) (drop-drop (length s) at buf));
+      next = refl;
     }
 
 pub written_none : (buf : List ℕ) (at : ℕ) → at ≤ length buf → buf ≡ written buf at []
@@ -171,3 +155,5 @@ pub tabbed-append : (fs gs : List (List ℕ)) → tabbed (fs ++ gs) ≡ tabbed f
 unfolding tabbed
 tabbed-append [] gs = refl
 tabbed-append (f ∷ fs) gs = rw (tabbed-append fs gs, append_assoc f (tabbed fs) (tabbed gs))
+
+pub ruleset widths = (width-on, width-end)

@@ -1,5 +1,6 @@
 -- 01, 'Desk and page text': lines ended by LF, fields parted by tabs. Both are bytes parted by a separator.
-use Rattle.std.specs.Prelude.{ℕ, suc, List, [], ◌∷◌, Bool, true, false, cond, ◌&&◌, eqb}
+use Rattle.std.specs.Prelude.{ℕ, suc, List, [], ◌∷◌, Bool, cond, eqb}
+use Rattle.std.specs.Str.{bytes_eq}
 
 abbrev pub TAB : ℕ
 TAB = 9
@@ -24,7 +25,4 @@ place k (x ∷ xs) = cond (eqb x k) 0 (suc (place k xs))
 
 -- the same bytes
 unfoldable pub same : List ℕ → List ℕ → Bool
-same [] [] = true
-same [] (y ∷ ys) = false
-same (x ∷ xs) [] = false
-same (x ∷ xs) (y ∷ ys) = eqb x y && same xs ys
+same = bytes_eq

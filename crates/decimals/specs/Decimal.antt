@@ -1,10 +1,6 @@
 -- 01, 'Desk and page text': a plain decimal has an optional minus, no leading zero and no −0.
 -- Its value is kept as a word, BASE above it; a size of BASE or more is cut off there, where it is out of every range.
-use Rattle.std.specs.Prelude.{ℕ, ◌+◌, ◌-◌, ◌*◌, min, List, [], ◌∷◌, Bool, true, false, not, cond, ◌&&◌, ◌||◌, eqb, leb}
-use Rattle.decimals.specs.declared.Amount.{Amount}
-use Rattle.decimals.specs.declared.Amount.TheVariants.{Is, NoAmount}
-use Rattle.decimals.specs.declared.Number.{Number}
-use Rattle.decimals.specs.declared.Number.TheVariants.{Word, NoNumber}
+use Rattle.std.specs.Prelude.{ℕ, ◌+◌, ◌-◌, ◌*◌, min, List, [], ◌∷◌, Bool, true, false, not, cond, ◌&&◌, ◌||◌, eqb, leb, Option, Some, None}
 
 -- 2 ^ 32
 abbrev pub BASE : ℕ
@@ -57,11 +53,11 @@ value [] = BASE
 value (b ∷ bs) = cond (eqb b MINUS) (BASE - amount bs) (BASE + amount (b ∷ bs))
 
 -- what the functions hand back: of digits, of a plain decimal, and of digits behind those of v
-unfoldable pub amount_of : List ℕ → Amount
-amount_of bs = cond (natural bs) (Is (amount bs)) NoAmount
+unfoldable pub amount_of : List ℕ → Option ℕ
+amount_of bs = cond (natural bs) (Some (amount bs)) None
 
-unfoldable pub number_of : List ℕ → Number
-number_of bs = cond (plain bs) (Word (value bs)) NoNumber
+unfoldable pub number_of : List ℕ → Option ℕ
+number_of bs = cond (plain bs) (Some (value bs)) None
 
-unfoldable pub summed : ℕ → List ℕ → Amount
-summed v bs = cond (digits_only bs) (Is (cap (reads v bs))) NoAmount
+unfoldable pub summed : ℕ → List ℕ → Option ℕ
+summed v bs = cond (digits_only bs) (Some (cap (reads v bs))) None

@@ -6,15 +6,13 @@ ghost use Rattle.decimals.specs.Bytes.{place, same};
 ghost use Rattle.decimals.specs.Decimal.{BASE, amount_of, cap, number_of, summed};
 ghost use Rattle.decimals.specs.Write.{Put, digits, field, signed};
 
-pub const TAB: u8 = 9;
+pub const TAB: u8 = b'\t';
 
-pub const LF: u8 = 10;
+pub const LF: u8 = b'\n';
 
-const MINUS: u8 = 45;
+const MINUS: u8 = b'-';
 
-const ZERO: u8 = 48;
-
-const NINE: u8 = 57;
+const ZERO: u8 = b'0';
 
 const BIAS: u32 = 2147483648;
 
@@ -26,119 +24,73 @@ pub fn find(s: &[u8], from: usize, key: u8) -> usize
     requires { from ≤ length s.now }
     ensures { result ≡ from + place key (drop from s.now) }
 {
-    let mut i = from;
-    while i < s.len() {
-        if s[i] == key {
-            return i;
-        }
-        i += 1;
-    }
-    i
+    let rest = &s[from..];
+    from + rest.iter().position(|b| *b == key).unwrap_or(rest.len())
 }
 
 // Whether two slices hold the same bytes.
+#[tactic(auto, unfolding(crate::specs::Bytes::same))]
 pub fn same_bytes(a: &[u8], b: &[u8]) -> bool
     ensures { result ≡ same a.now b.now }
 {
-    if a.len() != b.len() {
-        return false;
-    }
-    let mut i = 0;
-    while i < a.len() {
-        if a[i] != b[i] {
-            return false;
-        }
-        i += 1;
-    }
-    true
-}
-
-// What digits write, cut off at BASE.
-#[derive(Clone, Copy)]
-pub enum Amount {
-    Is(u64),
-    NoAmount,
-}
-
-// What a plain decimal writes, above BASE or below it.
-#[derive(Clone, Copy)]
-pub enum Number {
-    Word(u64),
-    NoNumber,
+    a == b
 }
 
 // One digit more.
+#[tactic(auto, unfolding(crate::specs::Decimal::cap))]
 fn more(v: u64, b: u8) -> u64
     requires { (v ≤ BASE) × (48 ≤ b) }
     ensures { result ≡ cap (v * 10 + (b - 48)) }
 {
-    let n = v * 10 + ((b - ZERO) as u64);
-    if n < BASE { n } else { BASE }
+    (v * 10 + (b - ZERO) as u64).min(BASE)
 }
 
-// What the digits of `f` write.
-fn sum_digits(f: &[u8]) -> Amount
+// What digits write, cut off at BASE.
+#[tactic(auto, using(crate::proofs::Numbers::sums), unfolding(crate::specs::Decimal::cap))]
+fn sum_digits(f: &[u8]) -> Option<u64>
     ensures { result ≡ summed 0 f.now }
 {
     let mut v: u64 = 0;
-    let mut i = 0;
-    while i < f.len() {
-        let b = f[i];
-        if b < ZERO {
-            return Amount::NoAmount;
+    for b in f {
+        if !b.is_ascii_digit() {
+            return None;
         }
-        if NINE < b {
-            return Amount::NoAmount;
-        }
-        v = more(v, b);
-        i += 1;
+        v = more(v, *b);
     }
-    Amount::Is(v)
+    Some(v)
 }
 
-// Digits with no leading zero.
+// What digits with no leading zero write.
 #[tactic(auto, using(crate::proofs::Numbers::amounts))]
-fn read_amount(f: &[u8]) -> Amount
+fn read_amount(f: &[u8]) -> Option<u64>
     ensures { result ≡ amount_of f.now }
 {
-    if f.len() == 0 {
-        return Amount::NoAmount;
+    match f {
+        [] => None,
+        [ZERO] => Some(0),
+        [ZERO, ..] => None,
+        _ => sum_digits(f),
     }
-    if f[0] == ZERO {
-        if f.len() == 1 {
-            return Amount::Is(0);
-        }
-        return Amount::NoAmount;
-    }
-    sum_digits(f)
 }
 
-// A plain decimal.
+// What a plain decimal writes, as its word: BASE above it.
 #[tactic(auto, using(crate::proofs::Numbers::numbers))]
-pub fn read_number(f: &[u8]) -> Number
+pub fn read_number(f: &[u8]) -> Option<u64>
     ensures { result ≡ number_of f.now }
 {
-    if f.len() == 0 {
-        return Number::NoNumber;
-    }
-    if f[0] == MINUS {
-        let a = read_amount(&f[1..]);
-        let Amount::Is(v) = a else {
-            return Number::NoNumber;
-        };
-        if v == 0 {
-            return Number::NoNumber;
+    match f {
+        [MINUS, digits @ ..] => {
+            let v = read_amount(digits)?;
+            if v == 0 { None } else { Some(BASE - v) }
         }
-        return Number::Word(BASE - v);
+        _ => Some(BASE + read_amount(f)?),
     }
-    let a = read_amount(f);
-    let Amount::Is(v) = a else {
-        return Number::NoNumber;
-    };
-    Number::Word(BASE + v)
 }
 
+// The writers below take a place and return the one behind: a struct of the buffer and its place would need a clause on the lent buffer's name in each.
+
 // How many digits `v` has.
+#[tactic(auto, using(crate::proofs::Written::widths))]
 fn width(v: u32) -> usize
     ensures { result ≡ length (digits v) }
 {
@@ -169,6 +121,7 @@ pub fn put_digits(buf: &mut [u8], at: usize, v: u32) -> usize
 }
 
 // Writes the coordinate that lies `u` steps above -2^31.
+#[tactic(auto, using(crate::proofs::Written::signed_high))]
 pub fn put_step(buf: &mut [u8], at: usize, u: u32) -> usize
     requires { at + length (signed u) ≤ length buf.old }
     ensures { Put buf.old at (signed u) buf.new result }
@@ -181,19 +134,18 @@ pub fn put_step(buf: &mut [u8], at: usize, u: u32) -> usize
 }
 
 // Writes the bytes of `s` at `at`.
+#[tactic(auto, using(crate::proofs::Written::put_part))]
 pub fn put_bytes(buf: &mut [u8], at: usize, s: &[u8]) -> usize
     requires { at + length s.now ≤ length buf.old }
     ensures { Put buf.old at s.now buf.new result }
 {
-    let mut i = 0;
-    while i < s.len() {
-        buf[at + i] = s[i];
-        i += 1;
-    }
-    at + i
+    let e = at + s.len();
+    buf[at..e].copy_from_slice(s);
+    e
 }
 
 // Writes one byte.
+#[tactic(auto, using(crate::proofs::Written::put_one))]
 pub fn put_byte(buf: &mut [u8], at: usize, b: u8) -> usize
     requires { at < length buf.old }
     ensures { Put buf.old at (b ∷ []) buf.new result }

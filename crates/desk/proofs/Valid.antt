@@ -1,14 +1,14 @@
 -- Validity of any words: the depth, the lists now, and the turns of the scan over the desk's undo entries.
 use mathlib.Core.Path.{◌≡◌, refl, sym, ap, ◌∙◌}
 use mathlib.Core.List.{List, ◌∷◌, map}
-use mathlib.Core.Bool.{Bool, true, false, not, ◌&&◌}
+use mathlib.Core.Bool.{Bool, true, false, ◌&&◌}
 use Prim.Native.Nat.{ℕ, suc, ◌+◌, ◌-◌, ◌*◌, ◌≤◌, ◌<◌}
 use native.Mathlib.Numerals.{add-one}
 use native.Mathlib.Omega.{arith}
 use lib.ListN.{length, get_or, take, drop, length-map, drop_of_length-le}
 use lib.Seq.{take-take}
 use lib.Dec.{leb}
-use borrow.Author.Tests.{le-leb, lt-leb, not-true, not-false}
+use borrow.Author.Tests.{le-leb, lt-leb}
 use Rattle.fixed.proofs.Bools.{and_left, and_right}
 use Rattle.rows.specs.Rows.{rows, scan}
 use Rattle.rows.proofs.Rows
@@ -44,10 +44,10 @@ module _ (ws : List ℕ) (d : ℕ) (ed : d ≡ get_or ws 0 0) where
     valid-is = rw (length-pile, le-leb d COPIES h)
 
     module _ (b : Bool) (eb : b ≡ ok_lists (lists_of (block ws))) where
-      pub block-fails : not b ≡ true → false ≡ valid (book_of ws)
-      block-fails t = rw (valid-is, ← eb, not-true b t)
+      pub block-fails : b ≡ false → false ≡ valid (book_of ws)
+      block-fails t = rw (valid-is, ← eb, t)
 
-      pub entries-say : not b ≡ false → (pile blk : List ℕ) (n : ℕ) → n ≡ PILE → pile ≡ take n (drop NEXT ws) → blk ≡ block ws → (r : Bool)
+      pub entries-say : b ≡ true → (pile blk : List ℕ) (n : ℕ) → n ≡ PILE → pile ≡ take n (drop NEXT ws) → blk ≡ block ws → (r : Bool)
           → r ≡ scan ok_copy (copies (map entry_of (rows ENTRY d pile)) (lists_of blk)) → r ≡ valid (book_of ws)
       unfolding entries_of
       entries-say t pile blk n en ep el r er =
@@ -55,7 +55,7 @@ module _ (ws : List ℕ) (d : ℕ) (ed : d ≡ get_or ws 0 0) where
           ap (rows ENTRY d) (ep ∙ ap (λ (k : ℕ). take k (drop NEXT ws)) en)
           ∙ Rows.rows-prefix ENTRY d (take PILE (drop NEXT ws)) (drop NEXT ws) (take-take (d * ENTRY) PILE (drop NEXT ws) (omega arith))
           ∙ ap (λ (k : ℕ). rows ENTRY k (drop NEXT ws)) ed in
-          rw (valid-is, ← eb, not-false b t) (er ∙ rw (q, el))
+          rw (valid-is, ← eb, t) (er ∙ rw (q, el))
 
 -- ---- the turns of the test of entries: es are all of them, l the lists now, blk the block after i of them
 unfoldable pub entries_in : ℕ → List ℕ → List Entry
@@ -77,16 +77,16 @@ module _ (d : ℕ) (pile : List ℕ) (i : ℕ) (all : Bool) (blk : List ℕ) (so
         ∙ ap (λ (t : Bool). t && scan ok_copy (copies (drop (i + 1) (entries_in d pile)) (before e (lists_of blk))))
         (sym (eb ∙ ap (λ (m : ℕ). ok_lists (before (entry_of (take m (drop (i * ENTRY) pile))) (lists_of blk))) en))
 
-    pub entry-fails : not b ≡ true → false ≡ all
-    entry-fails t = sym (here ∙ ap (λ (c : Bool). c && scan ok_copy (copies (drop (i + 1) (entries_in d pile)) (before e (lists_of blk)))) (not-true b t))
+    pub entry-fails : b ≡ false → false ≡ all
+    entry-fails t = sym (here ∙ ap (λ (c : Bool). c && scan ok_copy (copies (drop (i + 1) (entries_in d pile)) (before e (lists_of blk)))) t)
 
-    module _ (t : not b ≡ false) (hb : length blk ≡ BLOCK) (ok : ok_lists (lists_of blk) ≡ true) (new : List ℕ)
+    module _ (t : b ≡ true) (hb : length blk ≡ BLOCK) (ok : ok_lists (lists_of blk) ≡ true) (new : List ℕ)
         (is : b ≡ true → new ≡ block_before (entry_of (take n (drop (i * ENTRY) pile))) blk) where
       became : new ≡ block_before e blk
-      became = is (not-false b t) ∙ ap (λ (m : ℕ). block_before (entry_of (take m (drop (i * ENTRY) pile))) blk) en
+      became = is t ∙ ap (λ (m : ℕ). block_before (entry_of (take m (drop (i * ENTRY) pile))) blk) en
 
       kept : ok_lists (before e (lists_of blk)) ≡ true
-      kept = sym (eb ∙ ap (λ (m : ℕ). ok_lists (before (entry_of (take m (drop (i * ENTRY) pile))) (lists_of blk))) en) ∙ not-false b t
+      kept = sym (eb ∙ ap (λ (m : ℕ). ok_lists (before (entry_of (take m (drop (i * ENTRY) pile))) (lists_of blk))) en) ∙ t
 
       lists-now : lists_of new ≡ before e (lists_of blk)
       lists-now = ap lists_of became ∙ (before-block blk hb ok e kept).1
@@ -99,7 +99,7 @@ module _ (d : ℕ) (pile : List ℕ) (i : ℕ) (all : Bool) (blk : List ℕ) (so
 
       pub entry-passes : all ≡ scan ok_copy (copies (drop (i + 1) (entries_in d pile)) (lists_of new))
       entry-passes =
-          here ∙ ap (λ (c : Bool). c && scan ok_copy (copies (drop (i + 1) (entries_in d pile)) (before e (lists_of blk)))) (not-false b t)
+          here ∙ ap (λ (c : Bool). c && scan ok_copy (copies (drop (i + 1) (entries_in d pile)) (before e (lists_of blk)))) t
           ∙ ap (λ (m : Lists). scan ok_copy (copies (drop (i + 1) (entries_in d pile)) m)) (sym lists-now)
 
   pub entries-done : d ≤ i → true ≡ all

@@ -1,15 +1,13 @@
 -- The desk as a whole: what a call answers by the tests on its way, and what its words are then.
 use mathlib.Core.Path.{◌≡◌, refl, sym, ap, ◌∙◌}
-use mathlib.Core.List.{List, [], ◌∷◌, ◌++◌, append-nil}
-use mathlib.Core.Bool.{Bool, true, false, not, cond}
+use mathlib.Core.List.{List, [], ◌++◌}
+use mathlib.Core.Bool.{Bool, true, false, cond}
 use Prim.Native.Nat.{ℕ, ◌+◌, ◌-◌, ◌*◌, ◌≤◌, ◌<◌, min}
 use native.Mathlib.Omega.{arith}
-use lib.ListN.{length, get_or, take, drop, set, replicate, drop_of_length-le}
+use lib.ListN.{length, get_or, take, drop, set, replicate}
 use lib.Seq
 use lib.Dec.{eqb, leb}
-use lib.IntN.{ℤ}
-use borrow.Author.Tests.{leb-true, le-leb, lt-leb, eq-eqb, ne_eqb, not-true, not-false}
-use Rattle.fixed.specs.Up.{up}
+use borrow.Author.Tests.{leb-true, le-leb, lt-leb, eq-eqb, ne_eqb}
 use Rattle.rows.specs.Rows.{pasted, part, with_part, count}
 use Rattle.rows.proofs.Rows
 use Rattle.book.specs.Sizes.{COPIES}
@@ -20,7 +18,7 @@ use Rattle.book.specs.Entries.{before}
 use Rattle.desk.specs.Desk.{Sound, book_of, block, with_block, taken, at0, sized, laid, latest, unlaid, tag, KINDS, entry_of, out_words, back_words}
 use Rattle.block.specs.Block.{Counted, start, area, list_of, lists_of, with_row, without_row, block_before}
 use Rattle.book.specs.declared.Kind.{Kind}
-use Rattle.desk.specs.Calls.{Call, number, words, retired, box_record, point_record, net_record}
+use Rattle.desk.specs.Calls.{retired}
 use Rattle.block.proofs.Lists
 use Rattle.desk.proofs.Valid
 use Rattle.block.proofs.Blocks
@@ -32,32 +30,20 @@ pub kept : (r : ℕ) (after ws : List ℕ) → (r ≡ 0 → ⊥) → ws ≡ at0 
 unfolding at0
 kept r after ws h = rw (ne_eqb r 0 h)
 
-pub changed-at : (r : ℕ) (after ws ws' : List ℕ) → r ≡ 0 → ws' ≡ after → ws' ≡ at0 r after ws
-unfolding at0
-changed-at r after ws ws' h e = rw h e
-
 -- ---- a record added without a copy
 pub put_back : (k : Kind) (r : Record) (ws ys : List ℕ) → ys ≡ with_row k r (block ws) → take 1 ws ++ (ys ++ drop BLOCK (drop 1 ws)) ≡ taken k r ws
 unfolding taken with_block with_part
 put_back k r ws ys e = rw e
 
 -- ---- an entry laid and taken off
-module _ (ws e m l : List ℕ) (he : length e ≡ ENTRY) (em : m ≡ pasted ws (NEXT + ENTRY) (drop NEXT ws) LATER) (el : l ≡ pasted m NEXT e (length e)) where
-  pub laid_more : get_or ws 0 0 < COPIES → set l 0 (get_or ws 0 0 + 1) ≡ laid e ws
-  unfolding laid
-  laid_more h =
-      let q : min (get_or ws 0 0 + 1) COPIES ≡ get_or ws 0 0 + 1 = omega arith in
-      rw (el, he, em, q)
+pub laid_is : (ws e m l : List ℕ) (d : ℕ) → m ≡ pasted ws (NEXT + ENTRY) (drop NEXT ws) LATER → l ≡ pasted m NEXT e ENTRY → d ≡ min (get_or ws 0 0 + 1) COPIES
+    → set l 0 d ≡ laid e ws
+unfolding laid
+laid_is ws e m l d em el ed = rw (ed, el, em)
 
-  pub laid-full : COPIES ≤ get_or ws 0 0 → set l 0 COPIES ≡ laid e ws
-  unfolding laid
-  laid-full h =
-      let q : min (get_or ws 0 0 + 1) COPIES ≡ COPIES = omega arith in
-      rw (el, he, em, q)
-
-pub took-off : (ws l : List ℕ) → l ≡ pasted ws NEXT (drop (NEXT + ENTRY) ws) LATER → set l 0 (get_or ws 0 0 - 1) ≡ unlaid ws
+pub took-off : (ws l : List ℕ) → l ≡ pasted ws NEXT (drop (NEXT + ENTRY) ws) LATER → get_or l 0 0 ≡ get_or ws 0 0 → set l 0 (get_or l 0 0 - 1) ≡ unlaid ws
 unfolding unlaid
-took-off ws l e = rw e
+took-off ws l e d = rw (d, e)
 
 -- ---- the desk's test
 module _ (ws : List ℕ) where
@@ -65,13 +51,13 @@ module _ (ws : List ℕ) where
   unfolding sized
   test-1 h = rw (lt-leb DESK (length ws) h)
 
-  pub test-2 : DESK ≤ length ws → (v : Bool) → v ≡ valid (book_of ws) → not v ≡ true → 2 ≡ sized ws (answer (valid (book_of ws)) 0 0)
+  pub test-2 : DESK ≤ length ws → (v : Bool) → v ≡ valid (book_of ws) → v ≡ false → 2 ≡ sized ws (answer (valid (book_of ws)) 0 0)
   unfolding sized answer
-  test-2 h v e t = rw (le-leb DESK (length ws) h, ← e, not-true v t)
+  test-2 h v e t = rw (le-leb DESK (length ws) h, ← e, t)
 
-  pub test-0 : DESK ≤ length ws → (v : Bool) → v ≡ valid (book_of ws) → not v ≡ false → 0 ≡ sized ws (answer (valid (book_of ws)) 0 0)
+  pub test-0 : DESK ≤ length ws → (v : Bool) → v ≡ valid (book_of ws) → v ≡ true → 0 ≡ sized ws (answer (valid (book_of ws)) 0 0)
   unfolding sized answer
-  test-0 h v e t = rw (le-leb DESK (length ws) h, ← e, not-false v t)
+  test-0 h v e t = rw (le-leb DESK (length ws) h, ← e, t)
 
 -- ---- the answers of a call on the desk: d is the desk's test, a the number on a sound desk; `after` are the words of a change
 module _ (ws : List ℕ) (d : ℕ) (ed : d ≡ sized ws (answer (valid (book_of ws)) 0 0)) where
@@ -174,24 +160,6 @@ module _ (ws : List ℕ) where
   pub some-pile : (get_or ws 0 0 ≡ 0 → ⊥) → ◌≡◌ {A = ℕ} 0 (cond (eqb (length (book_of ws).pile) 0) 7 0)
   some-pile h = rw (ne_eqb (length (book_of ws).pile) 0 (λ e. h (sym depth_is ∙ e)))
 
--- ---- words put into a list of their length
-pub put_all : (d s ys : List ℕ) → length d ≡ length s → ys ≡ pasted d 0 s (length s) → ys ≡ s
-unfolding pasted
-put_all d s ys h e =
-    let l : drop (0 + length s) d ≡ [] = drop_of_length-le d {i = 0 + length s} (omega arith) in
-    e ∙ rw (l, Seq.take_all (length s) s (omega arith)) (append-nil s)
-
--- ---- a copy of the block now
-module _ (ws : List ℕ) (h : DESK ≤ length ws) (d ys : List ℕ) (ld : length d ≡ BLOCK) (e : ys ≡ pasted d 0 (block ws) (length (block ws))) where
-  pub copy_is : ys ≡ block ws
-  copy_is = put_all d (block ws) ys (ld ∙ sym (Decode.block-long ws h)) e
-
-  pub copy-long : length ys ≡ BLOCK
-  copy-long = ap length copy_is ∙ Decode.block-long ws h
-
-  pub copy-ok : ok_lists (lists_of (block ws)) ≡ true → ok_lists (lists_of ys) ≡ true
-  copy-ok ok = rw copy_is ok
-
 -- ---- the entries of a change
 pub laid_out : (ws w : List ℕ) (k : Kind) (t : ℕ) → t ≡ tag k → w ≡ laid (set (replicate ENTRY 0) 0 t) ws → w ≡ laid (out_words k) ws
 unfolding out_words
@@ -202,9 +170,6 @@ module _ (ws : List ℕ) (h : DESK ≤ length ws) (cnt : Counted (block ws)) (k 
     (w s : ℕ) (ew : w ≡ width k) (es : s ≡ start k) where
   pub row_room : 2 + s + i * w + w ≤ NEXT
   row_room = rw (ew, es) (omega (arith, Blocks.row_inside k (block ws) cnt i hi))
-
-  pub row-narrow : 2 + w ≤ ENTRY
-  row-narrow = rw ew (omega (arith, Words.narrow k))
 
   module _ (n : ℕ) (en : n ≡ 2 + s + i * w + w - (2 + s + i * w)) where
     pub row-taken : take n (drop (2 + s + i * w) ws) ≡ get_or (list_of k (block ws)) i []
@@ -248,20 +213,3 @@ module _ (ws l e : List ℕ) (s : Sound ws) (some : 0 < get_or ws 0 0) (el : l �
   latest-taken r ys p =
       let t : r ≡ true = p.0 ∙ rw (ee, same-now) (latest-fits ws s (λ z. omega arith)) in
       rw (p.1 t, ee, same-now, el)
-
--- ---- a caller's arguments
-pub as_called : (c d : Call) (ws w : List ℕ) (r : ℕ) → c ≡ d → (r ≡ number c ws) × (w ≡ words c ws) → (r ≡ number d ws) × (w ≡ words d ws)
-as_called c d ws w r e p = rw e at p
-
-pub box-call : (id a b c d : ℕ) (x0 y0 x1 y1 : ℤ) → a ≡ up x0 → b ≡ up y0 → c ≡ up x1 → d ≡ up y1
-    → Call.add Kind.Box (id ∷ a ∷ b ∷ c ∷ d ∷ []) ≡ Call.add Kind.Box (box_record id x0 y0 x1 y1)
-unfolding box_record
-box-call id a b c d x0 y0 x1 y1 e f g h = rw (e, f, g, h)
-
-pub point-call : (k : Kind) (id a b m : ℕ) (x y : ℤ) → a ≡ up x → b ≡ up y → Call.add k (id ∷ a ∷ b ∷ m ∷ []) ≡ Call.add k (point_record id x y m)
-unfolding point_record
-point-call k id a b m x y e f = rw (e, f)
-
-pub net-call : (id : ℕ) → Call.add Kind.Net (id ∷ []) ≡ Call.add Kind.Net (net_record id)
-unfolding net_record
-net-call id = refl

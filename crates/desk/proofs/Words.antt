@@ -1,15 +1,14 @@
 -- An entry's words.
 --     entry-out, entry-back             the entries of a change
 --     as-out, as-back, as_none, of_entry, no-entry   an entry by its words
---     kind-box .. kind-end              the kind that an entry names
 use mathlib.Core.Path.{◌≡◌, refl, sym, ap, ◌∙◌}
 use mathlib.Core.List.{List, [], ◌∷◌}
 use mathlib.Core.Bool.{Bool, true, false}
 use Prim.Native.Nat.{ℕ, ◌+◌, ◌-◌, ◌*◌, ◌≤◌, ◌<◌}
 use native.Mathlib.Omega.{arith}
-use lib.ListN.{length, get_or, take, drop, set, replicate, length-drop}
+use lib.ListN.{length, get_or, take, drop, set, replicate}
 use lib.Seq
-use borrow.Author.Tests.{lt-ltb, le-ltb, eq-eqb, ne_eqb}
+use borrow.Author.Tests.{lt-ltb, le-ltb}
 use Rattle.rows.specs.Rows.{pasted}
 use Rattle.rows.proofs.Areas
 use Rattle.book.specs.Sizes.{BOX}
@@ -78,29 +77,19 @@ module _ (k : Kind) (i : ℕ) (r : Record) (hw : length r ≡ width k) where
       rw (word_back 0 (omega arith), le-ltb (KINDS + tag k) KINDS (omega arith), lt-ltb (KINDS + tag k) (2 * KINDS) (omega (arith, few-tags k)), t, kind-tag k, word_back 1 (omega arith), row_back)
 
 -- ---- an entry by its words
-module _ (e : List ℕ) (w : ℕ) (ew : w ≡ get_or e 0 0) where
-  pub as-out : w < KINDS → (k : Kind) → k ≡ kind_of w → entry_of e ≡ out k
+module _ (e : List ℕ) (k : Kind) where
+  pub as-out : tag k ≡ get_or e 0 0 → entry_of e ≡ out k
   unfolding entry_of
-  as-out h k ek = rw (← ew, lt-ltb w KINDS h, ek)
+  as-out t = rw (← t, lt-ltb (tag k) KINDS (few-tags k), kind-tag k)
 
-  pub as-back : KINDS ≤ w → w < 2 * KINDS → (k : Kind) → k ≡ kind_of (w - KINDS) → (v i n : ℕ) → v ≡ width k → i ≡ get_or e 1 0 → n ≡ 2 + v - 2 → entry_of e ≡ back k i (take n (drop 2 e))
+  pub as-back : 3 < get_or e 0 0 → tag k ≡ get_or e 0 0 - KINDS → (n : ℕ) → n ≡ width k → entry_of e ≡ back k (get_or e 1 0) (take n (drop 2 e))
   unfolding entry_of comes_back
-  as-back h l k ek v i n ev ei en =
-      let q : n ≡ width k = omega arith in
-      rw (← ew, le-ltb w KINDS h, lt-ltb w (2 * KINDS) l, ← ek, ei, q)
+  as-back h t n en =
+      rw (le-ltb (get_or e 0 0) KINDS (omega arith), lt-ltb (get_or e 0 0) (2 * KINDS) (omega (arith, few-tags k)), ← t, kind-tag k, en)
 
-  pub as_none : 2 * KINDS ≤ w → entry_of e ≡ none
-  unfolding entry_of
-  as_none h = rw (← ew, le-ltb w KINDS (omega arith), le-ltb w (2 * KINDS) h)
-
-pub row-there : (k : Kind) (e : List ℕ) (v n : ℕ) → length e ≡ ENTRY → v ≡ width k → n ≡ 2 + v - 2 → length (take n (drop 2 e)) ≡ width k
-row-there k e v n he ev en =
-    let q : n ≡ width k = omega arith in
-    ap (λ (t : ℕ). length (take t (drop 2 e))) q
-    ∙ Seq.length-take-le (width k) (drop 2 e) (rw length-drop (omega (arith, narrow k)))
-
-pub row_inside : (k : Kind) (e : List ℕ) (v : ℕ) → length e ≡ ENTRY → v ≡ width k → 2 + v ≤ length e
-row_inside k e v he ev = omega (arith, narrow k)
+pub as_none : (e : List ℕ) → 3 < get_or e 0 0 → 3 < get_or e 0 0 - KINDS → entry_of e ≡ none
+unfolding entry_of
+as_none e h l = rw (le-ltb (get_or e 0 0) KINDS (omega arith), le-ltb (get_or e 0 0) (2 * KINDS) (omega arith))
 
 pub of_entry : (x y : Entry) (l : Lists) (blk ys : List ℕ) (r : Bool) → x ≡ y → (r ≡ ok_lists (before y l)) × (r ≡ true → ys ≡ block_before y blk)
     → (r ≡ ok_lists (before x l)) × (r ≡ true → ys ≡ block_before x blk)
@@ -109,20 +98,3 @@ of_entry x y l blk ys r e p = rw e p
 pub no-entry : (x : Entry) (l : Lists) → x ≡ none → false ≡ ok_lists (before x l)
 unfolding before applies
 no-entry x l e = sym (ap (λ (t : Entry). ok_lists (before t l)) e ∙ Entries.no-desk)
-
--- ---- the kind that an entry names
-pub kind-box : (n : ℕ) → n ≡ 0 → Kind.Box ≡ kind_of n
-unfolding kind_of
-kind-box n e = rw (eq-eqb n 0 e)
-
-pub kind-port : (n : ℕ) → (n ≡ 0 → ⊥) → n ≡ 1 → Kind.Port ≡ kind_of n
-unfolding kind_of
-kind-port n f e = rw (ne_eqb n 0 f, eq-eqb n 1 e)
-
-pub kind-net : (n : ℕ) → (n ≡ 0 → ⊥) → (n ≡ 1 → ⊥) → n ≡ 2 → Kind.Net ≡ kind_of n
-unfolding kind_of
-kind-net n f g e = rw (ne_eqb n 0 f, ne_eqb n 1 g, eq-eqb n 2 e)
-
-pub kind-end : (n : ℕ) → (n ≡ 0 → ⊥) → (n ≡ 1 → ⊥) → (n ≡ 2 → ⊥) → Kind.End ≡ kind_of n
-unfolding kind_of
-kind-end n f g h = rw (ne_eqb n 0 f, ne_eqb n 1 g, ne_eqb n 2 h)

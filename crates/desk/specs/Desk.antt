@@ -6,16 +6,14 @@ use Rattle.book.specs.Sizes.{COPIES}
 use Rattle.block.specs.Sizes.{PORTS_AT, NETS_AT, ENDS_AT, BLOCK}
 use Rattle.desk.specs.Sizes.{NEXT, ENTRY, LATER, DESK}
 use Rattle.book.specs.Book.{Record, Book, valid, Seen, seen, width}
+use Rattle.book.specs.Kinds
 use Rattle.book.specs.Entries.{Entry, out, back, none, copies}
 use Rattle.block.specs.Block.{lists_of, Counted, with_row}
 use Rattle.book.specs.declared.Kind.{Kind}
 
 -- ---- an entry: 0 to 3 the last record of that kind goes, 4 to 7 a record comes back; its place; its row
 abbrev pub tag : Kind → ℕ
-tag Kind.Box = 0
-tag Kind.Port = 1
-tag Kind.Net = 2
-tag Kind.End = 3
+tag = Kinds.tag
 
 abbrev pub KINDS : ℕ
 KINDS = 4

@@ -7,14 +7,15 @@ ghost use Rattle.book.specs.declared.Kind.{Kind};
 ghost use Rattle.book.specs.Sizes.{COPIES};
 ghost use Rattle.block.specs.Sizes.{BLOCK};
 ghost use Rattle.desk.specs.Sizes.{NEXT, ENTRY, PILE, DESK};
+ghost use Rattle.book.specs.Refusals.{number_of};
 ghost use Rattle.book.specs.Book.{width as width_of, ok_lists, ok_copy, valid, take_number, answer};
 ghost use Rattle.block.specs.Block.{area, list_of, lists_of, Counted, block_before};
 ghost use Rattle.desk.specs.Desk.{block, Ready, Sound, taken, emptied, at0, laid, unlaid, book_of, seen_of, sized};
-ghost use Rattle.desk.specs.Desk.{tag as tag_of, kind_of, entry_of, out_words, back_words};
+ghost use Rattle.desk.specs.Desk.{entry_of, out_words, back_words};
 ghost use Rattle.book.specs.Entries.{before, copies};
-ghost use Rattle.desk.specs.Calls.{Call, does, number, words, box_record, point_record, net_record};
+ghost use Rattle.desk.specs.Calls.{Call, does, number, words};
 
-use book::Kind;
+use book::{Kind, Refusal};
 
 pub const NEXT: usize = 1 + block::BLOCK;
 
@@ -29,18 +30,15 @@ const KINDS: u32 = 4;
 pub const DESK: usize = NEXT + PILE;
 
 // Adds a record without an undo entry, as reading a text does.
-pub fn take_record(desk: &mut [u32], kind: Kind, row: &[u32]) -> u32
+pub fn take_record(desk: &mut [u32], kind: Kind, row: &[u32]) -> Result<(), Refusal>
     requires ready { Ready desk.old }
     requires row_len { length row.now ≡ width_of kind }
-    ensures value { result ≡ take_number kind row.now (lists_of (block desk.old)) }
-    ensures desk_after { desk.new ≡ at0 result (taken kind row.now desk.old) desk.old }
+    ensures value { number_of result ≡ take_number kind row.now (lists_of (block desk.old)) }
+    ensures desk_after { desk.new ≡ at0 (number_of result) (taken kind row.now desk.old) desk.old }
 {
-    let number = block::take_number(&desk[1..NEXT], kind, row);
-    if number != 0 {
-        return number;
-    }
+    block::check_add(&desk[1..NEXT], kind, row)?;
     block::put_record(&mut desk[1..NEXT], kind, row);
-    0
+    Ok(())
 }
 
 // Empties the lists and the pile.
@@ -56,18 +54,14 @@ pub fn empty(desk: &mut [u32])
 }
 
 // Lays an entry on the pile.
-fn lay(desk: &mut [u32], entry: &[u32])
-    requires { (DESK ≤ length desk.old) × (length entry.now ≡ ENTRY) }
+fn lay(desk: &mut [u32], entry: &[u32; ENTRY])
+    requires { DESK ≤ length desk.old }
     ensures { desk.new ≡ laid entry.now desk.old }
 {
-    let depth = desk[0];
-    rows::move_up(desk, NEXT, NEXT + ENTRY, LATER);
-    rows::put(desk, NEXT, entry);
-    if depth < book::COPIES {
-        desk[0] = depth + 1;
-    } else {
-        desk[0] = book::COPIES;
-    }
+    let depth = desk[0].saturating_add(1).min(book::COPIES);
+    desk.copy_within(NEXT..NEXT + LATER, NEXT + ENTRY);
+    desk[NEXT..NEXT + ENTRY].copy_from_slice(entry);
+    desk[0] = depth;
 }
 
 // Takes the latest entry off.
@@ -75,36 +69,8 @@ fn unlay(desk: &mut [u32])
     requires { (DESK ≤ length desk.old) × (0 < get_or desk.old 0 0) }
     ensures { desk.new ≡ unlaid desk.old }
 {
-    let depth = desk[0];
-    rows::move_down(desk, NEXT, NEXT + ENTRY, LATER);
-    desk[0] = depth - 1;
-}
-
-// What an entry says first of a kind.
-fn tag(kind: Kind) -> u32
-    ensures { result ≡ tag_of kind }
-{
-    match kind {
-        Kind::Box => 0,
-        Kind::Port => 1,
-        Kind::Net => 2,
-        Kind::End => 3,
-    }
-}
-
-fn kind_of(n: u32) -> Kind
-    ensures { result ≡ kind_of n }
-{
-    if n == 0 {
-        return Kind::Box;
-    }
-    if n == 1 {
-        return Kind::Port;
-    }
-    if n == 2 {
-        return Kind::Net;
-    }
-    Kind::End
+    desk.copy_within(NEXT + ENTRY..DESK, NEXT);
+    desk[0] -= 1;
 }
 
 // Undoes a change, if the entry applies and leaves a valid set of lists.
@@ -114,17 +80,11 @@ fn take_entry(blk: &mut [u32], entry: &[u32]) -> bool
     ensures blk_after { result ≡ true → blk.new ≡ block_before (entry_of entry.now) blk.old }
 {
     let word = entry[0];
-    if word < KINDS {
-        return block::take_out(blk, kind_of(word));
+    if let Ok(kind) = Kind::try_from(word) {
+        return block::take_out(blk, kind);
     }
-    if word < 2 * KINDS {
-        let kind = kind_of(word - KINDS);
-        return block::put_back(
-            blk,
-            kind,
-            rows::wide(entry[1]),
-            &entry[2..2 + block::width(kind)],
-        );
+    if let Ok(kind) = Kind::try_from(word - KINDS) {
+        return block::put_back(blk, kind, entry[1] as usize, &entry[2..2 + kind.width()]);
     }
     false
 }
@@ -134,13 +94,11 @@ fn ok_entries(pile: &[u32], depth: usize, blk: &mut [u32]) -> bool
     requires { (length pile.now ≡ PILE) × (depth ≤ COPIES) × (length blk.old ≡ BLOCK) × (ok_lists (lists_of blk.old) ≡ true) }
     ensures { result ≡ scan ok_copy (copies (map entry_of (rows_of ENTRY depth pile.now)) (lists_of blk.old)) }
 {
-    let mut k = 0;
-    while k < depth {
+    for k in 0..depth {
         let a = k * ENTRY;
         if !take_entry(blk, &pile[a..a + ENTRY]) {
             return false;
         }
-        k += 1;
     }
     true
 }
@@ -150,29 +108,29 @@ fn ok_desk(desk: &[u32]) -> bool
     requires { DESK ≤ length desk.now }
     ensures { result ≡ valid (book_of desk.now) }
 {
-    let depth = rows::wide(desk[0]);
-    if rows::wide(book::COPIES) < depth {
+    let depth = desk[0] as usize;
+    if depth > book::COPIES as usize {
         return false;
     }
     if !block::ok_block(&desk[1..NEXT]) {
         return false;
     }
-    let mut blk: [u32; block::BLOCK] = [0; block::BLOCK];
-    rows::put(&mut blk, 0, &desk[1..NEXT]);
+    let mut blk = [0; block::BLOCK];
+    blk.copy_from_slice(&desk[1..NEXT]);
     ok_entries(&desk[NEXT..DESK], depth, &mut blk)
 }
 
 // What every call but reading tests first.
-pub fn validate(desk: &[u32]) -> u32
-    ensures { result ≡ sized desk.now (answer (seen_of desk.now).sound 0 0) }
+pub fn validate(desk: &[u32]) -> Result<(), Refusal>
+    ensures { number_of result ≡ sized desk.now (answer (seen_of desk.now).sound 0 0) }
 {
     if desk.len() < DESK {
-        return 1;
+        return Err(Refusal::TooShort);
     }
     if !ok_desk(desk) {
-        return 2;
+        return Err(Refusal::OutOfRange);
     }
-    0
+    Ok(())
 }
 
 // Lays the entry of an addition.
@@ -180,8 +138,8 @@ fn lay_added(desk: &mut [u32], kind: Kind)
     requires { DESK ≤ length desk.old }
     ensures { desk.new ≡ laid (out_words kind) desk.old }
 {
-    let mut entry: [u32; ENTRY] = [0; ENTRY];
-    entry[0] = tag(kind);
+    let mut entry = [0; ENTRY];
+    entry[0] = u32::from(kind);
     lay(desk, &entry);
 }
 
@@ -192,12 +150,12 @@ fn lay_retired(desk: &mut [u32], kind: Kind, i: usize)
     requires i_bound { i < count (area kind (block desk.old)) }
     ensures { desk.new ≡ laid (back_words kind i (get_or (list_of kind (block desk.old)) i [])) desk.old }
 {
-    let mut entry: [u32; ENTRY] = [0; ENTRY];
-    entry[0] = KINDS + tag(kind);
+    let mut entry = [0; ENTRY];
+    entry[0] = KINDS + u32::from(kind);
     entry[1] = i as u32;
-    let w = block::width(kind);
+    let w = kind.width();
     let a = 2 + block::area_at(kind) + i * w;
-    rows::put(&mut entry, 2, &desk[a..a + w]);
+    entry[2..2 + w].copy_from_slice(&desk[a..a + w]);
     lay(desk, &entry);
 }
 
@@ -208,127 +166,47 @@ fn take_latest(desk: &mut [u32])
     ensures { desk.new ≡ does Call.undo desk.old }
 {
     let mut entry = [0; ENTRY];
-    rows::put(&mut entry, 0, &desk[NEXT..NEXT + ENTRY]);
+    entry.copy_from_slice(&desk[NEXT..NEXT + ENTRY]);
     unlay(desk);
     take_entry(&mut desk[1..NEXT], &entry);
 }
 
 // An addition.
-fn add(desk: &mut [u32], kind: Kind, row: &[u32]) -> u32
+pub fn add(desk: &mut [u32], kind: Kind, row: &[u32]) -> Result<(), Refusal>
     requires { length row.now ≡ width_of kind }
-    ensures value { result ≡ number (Call.add kind row.now) desk.old }
+    ensures value { number_of result ≡ number (Call.add kind row.now) desk.old }
     ensures desk_after { desk.new ≡ words (Call.add kind row.now) desk.old }
 {
-    let sound = validate(desk);
-    if sound != 0 {
-        return sound;
-    }
-    let number = block::take_number(&desk[1..NEXT], kind, row);
-    if number != 0 {
-        return number;
-    }
+    validate(desk)?;
+    block::check_add(&desk[1..NEXT], kind, row)?;
     lay_added(desk, kind);
     block::put_record(&mut desk[1..NEXT], kind, row);
-    0
+    Ok(())
 }
 
 // A retirement.
-fn retire(desk: &mut [u32], kind: Kind, name: u32) -> u32
-    ensures value { result ≡ number (Call.retire kind name) desk.old }
+pub fn retire(desk: &mut [u32], kind: Kind, name: u32) -> Result<(), Refusal>
+    ensures value { number_of result ≡ number (Call.retire kind name) desk.old }
     ensures desk_after { desk.new ≡ words (Call.retire kind name) desk.old }
 {
-    let sound = validate(desk);
-    if sound != 0 {
-        return sound;
-    }
-    let number = block::leave_number(&desk[1..NEXT], kind, name);
-    if number != 0 {
-        return number;
-    }
+    validate(desk)?;
+    block::check_retire(&desk[1..NEXT], kind, name)?;
     let i = block::spot(&desk[1..NEXT], kind, name);
     lay_retired(desk, kind, i);
     block::cut_record(&mut desk[1..NEXT], kind, i);
-    0
+    Ok(())
 }
 
 // Undoes the latest change.
-pub fn undo(desk: &mut [u32]) -> u32
-    ensures value { result ≡ number Call.undo desk.old }
+pub fn undo(desk: &mut [u32]) -> Result<(), Refusal>
+    ensures value { number_of result ≡ number Call.undo desk.old }
     ensures desk_after { desk.new ≡ words Call.undo desk.old }
 {
-    let sound = validate(desk);
-    if sound != 0 {
-        return sound;
-    }
-    if desk[0] == 0 {
-        return 7;
+    validate(desk)?;
+    let depth = desk[0];
+    if depth == 0 {
+        return Err(Refusal::NothingToUndo);
     }
     take_latest(desk);
-    0
-}
-
-pub fn add_box(desk: &mut [u32], id: u32, x0: i32, y0: i32, x1: i32, y1: i32) -> u32
-    ensures value { result ≡ number (Call.add Kind.Box (box_record id x0 y0 x1 y1)) desk.old }
-    ensures desk_after { desk.new ≡ words (Call.add Kind.Box (box_record id x0 y0 x1 y1)) desk.old }
-{
-    let row = [
-        id,
-        fixed::up(x0),
-        fixed::up(y0),
-        fixed::up(x1),
-        fixed::up(y1),
-    ];
-    add(desk, Kind::Box, &row)
-}
-
-pub fn add_port(desk: &mut [u32], id: u32, x: i32, y: i32, directions: u32) -> u32
-    ensures value { result ≡ number (Call.add Kind.Port (point_record id x y directions)) desk.old }
-    ensures desk_after { desk.new ≡ words (Call.add Kind.Port (point_record id x y directions)) desk.old }
-{
-    let row = [id, fixed::up(x), fixed::up(y), directions];
-    add(desk, Kind::Port, &row)
-}
-
-pub fn add_net(desk: &mut [u32], id: u32) -> u32
-    ensures value { result ≡ number (Call.add Kind.Net (net_record id)) desk.old }
-    ensures desk_after { desk.new ≡ words (Call.add Kind.Net (net_record id)) desk.old }
-{
-    let row = [id];
-    add(desk, Kind::Net, &row)
-}
-
-pub fn add_end(desk: &mut [u32], net: u32, x: i32, y: i32, mark: u32) -> u32
-    ensures value { result ≡ number (Call.add Kind.End (point_record net x y mark)) desk.old }
-    ensures desk_after { desk.new ≡ words (Call.add Kind.End (point_record net x y mark)) desk.old }
-{
-    let row = [net, fixed::up(x), fixed::up(y), mark];
-    add(desk, Kind::End, &row)
-}
-
-pub fn retire_box(desk: &mut [u32], id: u32) -> u32
-    ensures value { result ≡ number (Call.retire Kind.Box id) desk.old }
-    ensures desk_after { desk.new ≡ words (Call.retire Kind.Box id) desk.old }
-{
-    retire(desk, Kind::Box, id)
-}
-
-pub fn retire_port(desk: &mut [u32], at: u32) -> u32
-    ensures value { result ≡ number (Call.retire Kind.Port at) desk.old }
-    ensures desk_after { desk.new ≡ words (Call.retire Kind.Port at) desk.old }
-{
-    retire(desk, Kind::Port, at)
-}
-
-pub fn retire_net(desk: &mut [u32], id: u32) -> u32
-    ensures value { result ≡ number (Call.retire Kind.Net id) desk.old }
-    ensures desk_after { desk.new ≡ words (Call.retire Kind.Net id) desk.old }
-{
-    retire(desk, Kind::Net, id)
-}
-
-pub fn retire_end(desk: &mut [u32], at: u32) -> u32
-    ensures value { result ≡ number (Call.retire Kind.End at) desk.old }
-    ensures desk_after { desk.new ≡ words (Call.retire Kind.End at) desk.old }
-{
-    retire(desk, Kind::End, at)
+    Ok(())
 }

@@ -9,7 +9,7 @@ use lib.IntN.{ℤ}
 use lib.ListN.{length}
 use Rattle.fixed.proofs.Bools.{and_left, and_right}
 use Rattle.fixed.proofs.Lists.{length-ups}
-use Rattle.anchors.specs.Records.{Records, records}
+use Rattle.anchors.specs.Records.{Records}
 use Rattle.page_graph.specs.Lent.{Asked}
 use Rattle.page_graph.specs.Claims.{Placed}
 use Rattle.layout.specs.Answer.{layout_number as page_number}
@@ -19,9 +19,9 @@ use Rattle.book.specs.Book.{Lists, Seen, valid, ranged, answer}
 use Rattle.desk.specs.Desk.{book_of, seen_of, sized}
 use Rattle.book.proofs.Keeps.{lists-ok}
 use Rattle.desk.proofs.Whole.{sound-at, unsound-at}
-use Rattle.select.specs.Page.{flat, page_of}
+use Rattle.select.specs.Page.{page_of}
 use Rattle.select.proofs.Ok.{few_nets, few-ends}
-use Rattle.select.proofs.Asked.{asked, placed, page_is}
+use Rattle.select.proofs.Asked.{asked, placed}
 use Rattle.desk_layout.specs.Layout.{Choice, choice, ok_choice, layout_number, zeros, left, is_lent, tested, says, shows, desk_number, desk_drawing}
 use Rattle.desk_layout.proofs.Outputs.{laid-left}
 
@@ -105,18 +105,12 @@ module _ (ws : List ℕ) (prune separate : ℕ) (nets : List ℕ) (x y : List �
           → (r ≡ tested (seen_of ws) Q) × (p ≡ left r (book_of ws).lists Q D)
       lent-on t r p (er, ep) = (passed (seen_of ws) Q D (sound-at ws n is z).book (sym eb ∙ not-false b t) r er, ep)
 
-  module _ (v : valid (book_of ws) ≡ true) (bs ps ns es : List ℕ) (nb np nn ne : ℕ) (eb : bs ≡ flat (book_of ws).lists.boxes) (ib : nb ≡ length (book_of ws).lists.boxes)
-      (ep : ps ≡ flat (book_of ws).lists.ports) (ip : np ≡ length (book_of ws).lists.ports) (en : ns ≡ flat (book_of ws).lists.nets) (in_is : nn ≡ length (book_of ws).lists.nets)
-      (ee : es ≡ flat (book_of ws).lists.ends) (ie : ne ≡ length (book_of ws).lists.ends) where
-    the_page : records bs nb ps np ns nn es ne ≡ page_of (book_of ws).lists
-    the_page = page_is (book_of ws).lists bs ps ns es nb np nn ne eb ib ep ip en in_is ee ie
-
-    pub valid-asks : Roomy → Asked (records bs nb ps np ns nn es ne) × (Placed (records bs nb ps np ns nn es ne) × (Roomy × ((nn ≤ 64) × (ne ≤ 256))))
+  module _ (v : valid (book_of ws) ≡ true) (R : Records) (page : R ≡ page_of (book_of ws).lists) where
+    pub valid-asks : Roomy → Asked R × (Placed R × (Roomy × ((R.net_count ≤ 64) × (R.end_count ≤ 256))))
     valid-asks room =
         let ok = lists-ok (book_of ws) v in
-        (rw the_page (asked (book_of ws).lists ok), (rw the_page (placed (book_of ws).lists ok), (room, (rw in_is (few_nets (book_of ws).lists ok), rw ie (few-ends (book_of ws).lists ok)))))
+        (rw page (asked (book_of ws).lists ok), (rw page (placed (book_of ws).lists ok), (room, (rw page (few_nets (book_of ws).lists ok), rw page (few-ends (book_of ws).lists ok)))))
 
-    pub valid-on : (r : ℕ) (p : Drawing) → (r ≡ page_number (records bs nb ps np ns nn es ne)) × (p ≡ laid (records bs nb ps np ns nn es ne) (eqb prune 1) (eqb separate 1) D)
+    pub valid-on : (r : ℕ) (p : Drawing) → (r ≡ page_number R) × (p ≡ laid R (eqb prune 1) (eqb separate 1) D)
         → (r ≡ layout_number (book_of ws).lists) × (p ≡ left r (book_of ws).lists Q D)
-    valid-on r p (e₁, e₂) =
-        (page-number (book_of ws).lists _ the_page r e₁, page-left (book_of ws).lists _ the_page Q D p r e₁ e₂)
+    valid-on r p (e₁, e₂) = (page-number (book_of ws).lists _ page r e₁, page-left (book_of ws).lists _ page Q D p r e₁ e₂)

@@ -57,23 +57,8 @@ fn layout_valid(
     ensures value { result ≡ layout_number (book_of desk.now).lists }
     ensures joins_after { drawing nets.new x.new y.new kinds.new joins.new ≡ left result (book_of desk.now).lists (choice prune separate) (drawing nets.old x.old y.old kinds.old joins.old) }
 {
-    let nb = select::count_of(desk, book::Kind::Box);
-    let np = select::count_of(desk, book::Kind::Port);
-    let nn = select::count_of(desk, book::Kind::Net);
-    let ne = select::count_of(desk, book::Kind::End);
-    let boxes = select::rows_of(desk, book::Kind::Box);
-    let ports = select::rows_of(desk, book::Kind::Port);
-    let ids = select::rows_of(desk, book::Kind::Net);
-    let ends = select::rows_of(desk, book::Kind::End);
     page_layout::lay_out_page(
-        boxes,
-        nb,
-        ports,
-        np,
-        ids,
-        nn,
-        ends,
-        ne,
+        select::records(desk),
         prune == 1,
         separate == 1,
         nets,
@@ -100,7 +85,7 @@ fn layout_lent(
     ensures value { result ≡ tested (seen_of desk.now) (choice prune separate) }
     ensures joins_after { drawing nets.new x.new y.new kinds.new joins.new ≡ left result (book_of desk.now).lists (choice prune separate) (drawing nets.old x.old y.old kinds.old joins.old) }
 {
-    if desk::validate(desk) != 0 {
+    if desk::validate(desk).is_err() {
         no_drawing(nets, x, y, kinds, joins);
         return 2;
     }

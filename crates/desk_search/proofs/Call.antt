@@ -8,15 +8,15 @@ use borrow.Author.Tests.{leb-true, eqb-true, eqb-false, not-true, not-false}
 use lib.Dec.{leb, eqb}
 use lib.IntN.{ℤ}
 use lib.ListN.{length}
+use Rattle.std.proofs.Common.{Option}
 use Rattle.fixed.specs.Up.{up, ups}
 use Rattle.fixed.proofs.Bools.{and_left, and_right}
 use Rattle.fixed.proofs.Lists.{length-ups}
 use Rattle.nodes.specs.Graph.{NODES}
 use Rattle.nodes.specs.Columns.{GRAPH_WORDS}
-use Rattle.anchors.specs.Records.{Records, records}
+use Rattle.anchors.specs.Records.{Records}
 use Rattle.path_finding.specs.Line.{table, place_at, kind_at, direction_at, Written}
 use Rattle.search.specs.Searched.{Ended}
-use Rattle.page_graph.specs.declared.Graphed.{Graphed}
 use Rattle.page_graph.specs.Page.{crowded, graph_of_page}
 use Rattle.page_graph.specs.Lent.{Asked, Answered}
 use Rattle.page_search.specs.Page.{PageSearched, search_line as page_line}
@@ -29,8 +29,8 @@ use Rattle.book.specs.Book.{Lists, Seen, ok_lists, ok_place, valid, ranged, answ
 use Rattle.desk.specs.Desk.{book_of, seen_of, sized}
 use Rattle.book.proofs.Keeps.{lists-ok}
 use Rattle.desk.proofs.Whole.{sound-at, unsound-at}
-use Rattle.select.specs.Page.{flat, page_of}
-use Rattle.select.proofs.Asked.{asked, page_is}
+use Rattle.select.specs.Page.{page_of}
+use Rattle.select.proofs.Asked.{asked}
 use Rattle.desk_search.specs.Query.{Query, ENDS, query, ok_ends, ok_query, is_pruned}
 use Rattle.desk_search.specs.Search.{Outputs, outputs, is_lent, graph_of, search_number, search_line, written, left, zeros, tested, says, shows, desk_number, desk_outputs}
 use Rattle.desk_search.proofs.Exists.{sound}
@@ -84,14 +84,7 @@ no-nodes l ok q h =
     go false e t = t.line_is e ∙ (t.told e).refused (λ z. h (t.number_is e ∙ z))
 
 -- ---- the page of a valid desk, and what a search on it leaves
-module _ (l : Lists) (ok : ok_lists l ≡ true) (bs ps ns es : List ℕ) (nb np nn ne : ℕ) (eb : bs ≡ flat l.boxes) (ib : nb ≡ length l.boxes)
-    (ep : ps ≡ flat l.ports) (ip : np ≡ length l.ports) (en : ns ≡ flat l.nets) (in_is : nn ≡ length l.nets) (ee : es ≡ flat l.ends) (ie : ne ≡ length l.ends) where
-  abbrev lent : Records
-  lent = records bs nb ps np ns nn es ne
-
-  the_page : lent ≡ page_of l
-  the_page = page_is l bs ps ns es nb np nn ne eb ib ep ip en in_is ee ie
-
+module _ (l : Lists) (ok : ok_lists l ≡ true) (lent : Records) (the_page : lent ≡ page_of l) where
   pub page-asked : Asked lent
   page-asked = rw the_page (asked l ok)
 
@@ -179,20 +172,15 @@ module _ (ws : List ℕ) (prune x y : ℕ) (ex ey lx ly : List ℤ) (kinds dirs 
           → (r ≡ tested (seen_of ws) Q) × (p ≡ left r (book_of ws).lists Q O)
       lent-on t r p h = pass_all (seen_of ws) Q O p r (sound-at ws n is z).book (sym eb ∙ not-false b t) h
 
-  module _ (v : valid (book_of ws) ≡ true) (bs ps ns es : List ℕ) (nb np nn ne : ℕ) (eb : bs ≡ flat (book_of ws).lists.boxes) (ib : nb ≡ length (book_of ws).lists.boxes)
-      (ep : ps ≡ flat (book_of ws).lists.ports) (ip : np ≡ length (book_of ws).lists.ports) (en : ns ≡ flat (book_of ws).lists.nets) (in_is : nn ≡ length (book_of ws).lists.nets)
-      (ee : es ≡ flat (book_of ws).lists.ends) (ie : ne ≡ length (book_of ws).lists.ends) where
-    abbrev R : Records
-    R = records bs nb ps np ns nn es ne
-
+  module _ (v : valid (book_of ws) ≡ true) (R : Records) (page : R ≡ page_of (book_of ws).lists) where
     pub valid-asks : Asked R
-    valid-asks = page-asked (book_of ws).lists (lists-ok (book_of ws) v) bs ps ns es nb np nn ne eb ib ep ip en in_is ee ie
+    valid-asks = page-asked (book_of ws).lists (lists-ok (book_of ws) v) R page
 
     valid-sound : Sound R
-    valid-sound = page-sound (book_of ws).lists (lists-ok (book_of ws) v) bs ps ns es nb np nn ne eb ib ep ip en in_is ee ie
+    valid-sound = page-sound (book_of ws).lists (lists-ok (book_of ws) v) R page
 
     -- the page's graph, and the search on it
-    module _ (g : Graphed) (l : List ℤ) (told : Answered g l (crowded R) (graph_of_page R (eqb prune 1))) where
+    module _ (g : Option ℕ) (l : List ℤ) (told : Answered g l (crowded R) (graph_of_page R (eqb prune 1))) where
       pub valid-searchable : GRAPH_WORDS ≤ length l → Searchable g l
       valid-searchable h = searchable R valid-sound (eqb prune 1) g l told h
 
@@ -202,8 +190,8 @@ module _ (ws : List ℕ) (prune x y : ℕ) (ex ey lx ly : List ℤ) (kinds dirs 
       valid-on r nodes lx' ly' kinds' dirs' a b c d tried =
           let ok = lists-ok (book_of ws) v in
           let ran = page-searched R valid-sound (eqb prune 1) g l told x y (ups ex) (ups ey) r nodes (ups lx') (ups ly') kinds' dirs' tried in (
-            page-number (book_of ws).lists ok bs ps ns es nb np nn ne eb ib ep ip en in_is ee ie Q (eqb prune 1) r nodes O (ups lx') (ups ly') kinds' dirs' refl ran,
-            page-left (book_of ws).lists ok bs ps ns es nb np nn ne eb ib ep ip en in_is ee ie Q (eqb prune 1) r nodes O (ups lx') (ups ly') kinds' dirs' refl ran (length-ups lx' ∙ a ∙ sym (length-ups lx)) (length-ups ly' ∙ b ∙ sym (length-ups ly)) c d,
+            page-number (book_of ws).lists ok R page Q (eqb prune 1) r nodes O (ups lx') (ups ly') kinds' dirs' refl ran,
+            page-left (book_of ws).lists ok R page Q (eqb prune 1) r nodes O (ups lx') (ups ly') kinds' dirs' refl ran (length-ups lx' ∙ a ∙ sym (length-ups lx)) (length-ups ly' ∙ b ∙ sym (length-ups ly)) c d,
           )
 
 pub as-asked : (ws : List ℕ) (o p : Outputs) (r prune u v : ℕ) (x y : ℤ) (ex ey : List ℤ) → u ≡ up x → v ≡ up y

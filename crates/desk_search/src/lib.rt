@@ -86,29 +86,9 @@ fn search_valid(
     ensures value { result ≡ search_number (book_of desk.now).lists (query prune x y ex.now ey.now) }
     ensures dirs_after { outputs lx.new ly.new kinds.new dirs.new ≡ left result (book_of desk.now).lists (query prune x y ex.now ey.now) (outputs lx.old ly.old kinds.old dirs.old) }
 {
-    let nb = select::count_of(desk, book::Kind::Box);
-    let np = select::count_of(desk, book::Kind::Port);
-    let nn = select::count_of(desk, book::Kind::Net);
-    let ne = select::count_of(desk, book::Kind::End);
-    let boxes = select::rows_of(desk, book::Kind::Box);
-    let ports = select::rows_of(desk, book::Kind::Port);
-    let nets = select::rows_of(desk, book::Kind::Net);
-    let ends = select::rows_of(desk, book::Kind::End);
     let mut nodes: [i32; nodes::GRAPH_WORDS] = [0; nodes::GRAPH_WORDS];
-    let g = page_graph::graph_of(
-        boxes,
-        nb,
-        ports,
-        np,
-        nets,
-        nn,
-        ends,
-        ne,
-        prune == 1,
-        &mut nodes,
-    );
-    let a = page_search::search_on(&nodes, g, x, y, ex, ey, lx, ly, kinds, dirs);
-    a.number
+    let graph = page_graph::graph_of(select::records(desk), prune == 1, &mut nodes);
+    page_search::search_on(&nodes, graph, x, y, ex, ey, lx, ly, kinds, dirs).number
 }
 
 // A search that is lent enough: 2, or the number of the search.
@@ -128,7 +108,7 @@ fn search_lent(
     ensures value { result ≡ tested (seen_of desk.now) (query prune x y ex.now ey.now) }
     ensures dirs_after { outputs lx.new ly.new kinds.new dirs.new ≡ left result (book_of desk.now).lists (query prune x y ex.now ey.now) (outputs lx.old ly.old kinds.old dirs.old) }
 {
-    if desk::validate(desk) != 0 {
+    if desk::validate(desk).is_err() {
         no_line(lx, ly, kinds, dirs);
         return 2;
     }

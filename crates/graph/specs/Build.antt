@@ -1,10 +1,11 @@
 -- 01, 'Graph': 'the axis lists are all anchors' sorted distinct x and y'; the graph of padded boxes and anchors, pruned or not.
-use Rattle.std.specs.Prelude.{◌≡◌, Bool, cond, List, ℕ, ◌<◌, ◌≤◌, ◌*◌, ℤ}
-use Rattle.fixed.specs.Constants.{BOXES}
-use Rattle.fixed.specs.Columns.{column}
+use Rattle.std.specs.Prelude.{Bool, cond, List, ℕ, ◌≤◌, ℤ, length}
+use Rattle.fixed.specs.declared.PaddedBox.{PaddedBox}
+use Rattle.fixed.specs.Boxes.{min_xs, min_ys, max_xs, max_ys}
 use Rattle.axis.specs.Axis.{axis}
 use Rattle.nodes.specs.Graph.{Graph, NODES}
 use Rattle.scan.specs.Scan.{Page, Anchors, build}
+use Rattle.scan.specs.Lent.{Held}
 use Rattle.prune.specs.Prune.{prune}
 
 -- padded boxes
@@ -15,22 +16,21 @@ pub record Boxes : Type 0 where
   pub max_y : List ℕ
   pub count : ℕ
 
-abbrev pub boxes_of : List ℤ → ℕ → Boxes
-boxes_of l n = record { min_x = column 0 n l; min_y = column BOXES n l; max_x = column (BOXES * 2) n l; max_y = column (BOXES * 3) n l; count = n }
+abbrev pub boxes_of : List PaddedBox → Boxes
+boxes_of l = record { min_x = min_xs l; min_y = min_ys l; max_x = max_xs l; max_y = max_ys l; count = length l }
 
 abbrev pub built_page : Boxes → Anchors → Page
 built_page b s =
     record { min_x = b.min_x; min_y = b.min_y; max_x = b.max_x; max_y = b.max_y; boxes = b.count; axis_x = axis s.xs s.count; axis_y = axis s.ys s.count }
 
--- the graph before pruning, and what is handed back
+-- 01, 'Limits': 4,096 nodes before pruning. The graph before pruning, and what is handed back
 unfoldable pub whole : Boxes → Anchors → Graph
 whole b s = build (built_page b s) s
 
 unfoldable pub made : Boxes → Anchors → Bool → Graph
 made b s pruned = cond pruned (prune (whole b s)) (whole b s)
 
--- 01, 'Limits': 4,096 nodes before pruning. More than that if g has more, else the graph h, with g within the limit
-pub record Made (r : ℕ) (v g h : Graph) : Type 0 where
-  pub full : NODES < r → NODES < g.count
-  pub fits : r ≤ NODES → g.count ≤ NODES
-  pub same : r ≤ NODES → v ≡ h
+-- the graph h, made from g, which is within the limit, is in the list, as its first n nodes
+pub record Made (g h : Graph) (nodes : List ℤ) (n : ℕ) : Type 0 where
+  pub fits : g.count ≤ NODES
+  pub held : Held h nodes n

@@ -1,6 +1,7 @@
 -- The graph of a page that is not crowded, about the definitions.
 --     page-sound    it is what a search asks, explicit anchors are explicit nodes, pruning keeps what it should
 --     told-crowded, told-made, told-nodes    either it is told that the page is crowded, or the list holds its graph
+use Rattle.std.proofs.Common.{Option, None, Some}
 use mathlib.Core.Path.{◌≡◌, refl, sym, ◌∙◌}
 use mathlib.Core.Bool.{Bool, true, false, cond, ◌||◌}
 use mathlib.Core.List.{List}
@@ -19,8 +20,6 @@ use Rattle.graph.specs.Build.{whole, made}
 use Rattle.graph.proofs.Theorem.{made-wf, made-keeps, made-explicit}
 use Rattle.page_graph.specs.Page.{implicit, then_implicit, all_anchors, overfull, boxes_of_page, anchors_of_page, crowded, graph_of_page, graphed}
 use Rattle.page_graph.specs.Lent.{Answered}
-use Rattle.page_graph.specs.declared.Graphed.{Graphed}
-use Rattle.page_graph.specs.declared.Graphed.TheVariants.{Crowded, Nodes}
 use Rattle.page_graph.specs.Claims.{PageSound}
 use Rattle.page_graph.proofs.Explicits.{explicit-even}
 
@@ -65,28 +64,28 @@ page-sound r pruned e =
 
 -- ---- what is told
 
-module _ {t : Graphed} {l : List ℤ} {full : Bool} {g : Graph} (a : Answered t l full g) where
-  pub told-crowded : t ≡ Crowded → full ≡ true
+module _ {t : Option ℕ} {l : List ℤ} {full : Bool} {g : Graph} (a : Answered t l full g) where
+  pub told-crowded : t ≡ None → full ≡ true
   unfolding graphed
   told-crowded e = by full refl (sym e ∙ a.is)
     where
-      by : (f : Bool) → full ≡ f → Crowded ≡ cond f Crowded (Nodes g.count) → full ≡ true
+      by : (f : Bool) → full ≡ f → None ≡ cond f None (Some g.count) → full ≡ true
       by true q z = q
-      by false q z = let y : ◌≡◌ {A = ℕ} 0 1 = cc in absurd (omega arith)
+      by false q z = cc
 
-  pub told-made : (n : ℕ) → t ≡ Nodes n → full ≡ false
+  pub told-made : (n : ℕ) → t ≡ Some n → full ≡ false
   unfolding graphed
   told-made n e = by full refl (sym e ∙ a.is)
     where
-      by : (f : Bool) → full ≡ f → Nodes n ≡ cond f Crowded (Nodes g.count) → full ≡ false
-      by true q z = let y : ◌≡◌ {A = ℕ} 0 1 = cc in absurd (omega arith)
+      by : (f : Bool) → full ≡ f → Some n ≡ cond f None (Some g.count) → full ≡ false
+      by true q z = cc
       by false q z = q
 
   -- the list holds the graph
-  pub told-nodes : (n : ℕ) → t ≡ Nodes n → graph n l ≡ g
+  pub told-nodes : (n : ℕ) → t ≡ Some n → graph n l ≡ g
   unfolding graphed
   told-nodes n e =
       let f = told-made n e in
-      let z : Nodes n ≡ Nodes g.count = rw f at (sym e ∙ a.is) in
+      let z : Some n ≡ Some g.count = rw f at (sym e ∙ a.is) in
       let k : n ≡ g.count = cc in
       rw k (a.same f)

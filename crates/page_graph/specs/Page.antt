@@ -1,5 +1,5 @@
 -- 01, 'Graph (`Graph::build`)': from a page's records to its graph.
-use Rattle.std.specs.Prelude.{Bool, true, false, cond, ◌||◌, List, ◌++◌, ℕ, ltb, length, replicate}
+use Rattle.std.specs.Prelude.{Bool, true, false, cond, ◌||◌, List, ◌++◌, ℕ, ltb, length, replicate, Option, None, Some}
 use Rattle.sightline.specs.Boxes.{edges}
 use Rattle.corridors.specs.Merge as Implicit
 use Rattle.corridors.specs.Merge.{anchors, directions}
@@ -9,8 +9,6 @@ use Rattle.scan.specs.Scan.{Anchors}
 use Rattle.anchors.specs.Records.{BOX, Records}
 use Rattle.anchors.specs.Explicit.{Columns, explicit}
 use Rattle.graph.specs.Build.{Boxes, whole, made}
-use Rattle.page_graph.specs.declared.Graphed.{Graphed}
-use Rattle.page_graph.specs.declared.Graphed.TheVariants.{Crowded, Nodes}
 
 -- 'a box is padded by 10 units': the n rows of boxes, their least edges down and their greatest ones up
 unfoldable pub padded_boxes : List ℕ → ℕ → Boxes
@@ -54,6 +52,6 @@ graph_of_page r pruned = made (boxes_of_page r) (anchors_of_page r) pruned
 
 -- ---- what is handed back
 
--- that the page is crowded, or how many nodes its graph has
-unfoldable pub graphed : Bool → Graph → Graphed
-graphed full g = cond full Crowded (Nodes g.count)
+-- nothing if the page is crowded, else how many nodes its graph has
+unfoldable pub graphed : Bool → Graph → Option ℕ
+graphed full g = cond full None (Some g.count)

@@ -1,4 +1,5 @@
 -- The nets on the graph that is told of are those of the page.
+use Rattle.std.proofs.Common.{Option, None, Some}
 use mathlib.Core.Path.{◌≡◌, refl, ap, ◌∙◌}
 use mathlib.Core.Bool.{Bool, true, false}
 use mathlib.Core.List.{List}
@@ -10,8 +11,6 @@ use Rattle.fixed.specs.Up.{ups}
 use Rattle.fixed.proofs.Lists.{length-ups}
 use Rattle.nodes.specs.Columns.{GRAPH_WORDS, graph}
 use Rattle.anchors.specs.Records.{Records}
-use Rattle.page_graph.specs.declared.Graphed.{Graphed}
-use Rattle.page_graph.specs.declared.Graphed.TheVariants.{Crowded, Nodes}
 use Rattle.page_graph.specs.Page.{graphed, crowded, graph_of_page}
 use Rattle.page_graph.specs.Lent.{Asked, Answered}
 use Rattle.page_graph.specs.Claims.{Placed}
@@ -26,15 +25,15 @@ use Rattle.page_layout.specs.Lent.{number_on, laid_on, Grounded}
 
 -- ---- by what is told of a graph
 
-pub number-full : (g : Graphed) → g ≡ Crowded → 8 ≡ number_on g
+pub number-full : (g : Option ℕ) → g ≡ None → 8 ≡ number_on g
 unfolding number_on
 number-full g h = rw h
 
-pub number_fits : (g : Graphed) (n : ℕ) → g ≡ Nodes n → 0 ≡ number_on g
+pub number_fits : (g : Option ℕ) (n : ℕ) → g ≡ Some n → 0 ≡ number_on g
 unfolding number_on
 number_fits g n h = rw h
 
-module _ (nets : List ℕ) (x y : List ℤ) (K R nets1 : List ℕ) (x1 y1 : List ℤ) (K1 R1 : List ℕ) (g : Graphed) (l : List ℤ) (I : List ℕ) (k : ℕ) (E : List ℕ) (e : ℕ) (apart : Bool) where
+module _ (nets : List ℕ) (x y : List ℤ) (K R nets1 : List ℕ) (x1 y1 : List ℤ) (K1 R1 : List ℕ) (g : Option ℕ) (l : List ℤ) (I : List ℕ) (k : ℕ) (E : List ℕ) (e : ℕ) (apart : Bool) where
   abbrev zeros : Page
   zeros = blank (length nets) (length x) (length y) (length K) (length R)
 
@@ -42,18 +41,18 @@ module _ (nets : List ℕ) (x y : List ℤ) (K R nets1 : List ℕ) (x1 y1 : List
   unfolding bare
   bare-is = rw (length-ups x, length-ups y)
 
-  pub laid-full : g ≡ Crowded → page nets1 (vertices (ups x1) (ups y1) K1 0) R1 0 ≡ zeros → drawing nets1 x1 y1 K1 R1 ≡ laid_on g l I k E e apart (drawing nets x y K R)
+  pub laid-full : g ≡ None → page nets1 (vertices (ups x1) (ups y1) K1 0) R1 0 ≡ zeros → drawing nets1 x1 y1 K1 R1 ≡ laid_on g l I k E e apart (drawing nets x y K R)
   unfolding laid_on lists_of
   laid-full h q = rw (h, bare-is) (ap lists_of q)
 
-  pub laid-fits : (n : ℕ) → g ≡ Nodes n → (c j : ℕ) → page nets1 (vertices (ups x1) (ups y1) K1 c) R1 j ≡ drawn apart (nets_to (graph n l) I E e k zeros)
+  pub laid-fits : (n : ℕ) → g ≡ Some n → (c j : ℕ) → page nets1 (vertices (ups x1) (ups y1) K1 c) R1 j ≡ drawn apart (nets_to (graph n l) I E e k zeros)
       → drawing nets1 x1 y1 K1 R1 ≡ laid_on g l I k E e apart (drawing nets x y K R)
   unfolding laid_on lists_of
   laid-fits n h c j q = rw (h, bare-is) (ap lists_of q)
 
 -- ---- on the graph of a page
 
-module _ (r : Records) (pruned : Bool) (g : Graphed) (l : List ℤ) (a : Answered g l (crowded r) (graph_of_page r pruned)) where
+module _ (r : Records) (pruned : Bool) (g : Option ℕ) (l : List ℤ) (a : Answered g l (crowded r) (graph_of_page r pruned)) where
   pub grounded : Asked r → Placed r → GRAPH_WORDS ≤ length l → Grounded g l
   grounded asked placed h =
       record {

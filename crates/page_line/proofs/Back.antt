@@ -16,9 +16,9 @@ use Rattle.decimals.proofs.Bools.{below}
 use Rattle.decimals.proofs.Digits.{plain-digits, value-digits}
 use Rattle.decimals.proofs.Clean.{clean, all_clean, clean-append, clean-digits, clean-signed, clean-tabbed, digits-width, plain-signed, signed-width, split-part, split-tabbed, value-signed}
 use Rattle.page_line.specs.Fields.{all_plain, values, id_word, step_word, small_word, word, row_of}
+use Rattle.std.specs.Prelude.{Some}
 use Rattle.book.specs.declared.Kind.{Kind}
 use Rattle.page_line.specs.Records.{Line, entry, name, sorts, kind_of, shape, record_of, line_of}
-use Rattle.page_line.specs.declared.Found.TheVariants.{Of}
 use Rattle.page_line.specs.declared.Sort.{Sort}
 use Rattle.page_line.specs.declared.Sort.TheVariants.{Ident, Step, Small}
 use Rattle.page_line.specs.Lines.{LINE, ended_in, ended, lines_of, text_lines_in, text_lines}
@@ -121,7 +121,7 @@ line-short Kind.Port = omega arith
 line-short Kind.Net = omega arith
 line-short Kind.End = omega arith
 
-kind-name : (k : Kind) → kind_of (name k) ≡ Of k
+kind-name : (k : Kind) → kind_of (name k) ≡ Some k
 unfolding kind_of same
 kind-name Kind.Box = refl
 kind-name Kind.Port = refl

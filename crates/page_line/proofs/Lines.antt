@@ -10,7 +10,7 @@ use lib.Dec.{ltb}
 use borrow.Author.Tests.{eq-eqb, ne_eqb, lt-ltb, le-ltb, ltb-true, ltb-false}
 use Rattle.decimals.specs.Bytes.{LF, split, place}
 use Rattle.decimals.specs.Decimal.{is_empty}
-use Rattle.decimals.proofs.Split.{place-le, split-cut, split-last}
+use Rattle.decimals.proofs.Split.{find_inside, split-cut, split-last}
 use Rattle.page_line.specs.Records.{Line, malformed, line_of}
 use Rattle.page_line.specs.Lines.{LINE, ended_in, ended, lines_in, lines_of, line_at}
 use Rattle.page_line.proofs.Shapes.{head-split}
@@ -51,7 +51,7 @@ line-ended text at e g = rw (ne_eqb e (length text) (λ x. omega arith))
 
 module _ (text : List ℕ) (at e : ℕ) (found : e ≡ at + place LF (drop at text)) (h : at < length text) where
   pub line-end : e ≤ length text
-  line-end = omega (arith, place-le LF (drop at text), length-drop at text)
+  line-end = find_inside text at e LF found (omega arith)
 
   -- the lines from a place on: one, and those behind it
   pub line_first : lines_of (split LF (drop at text)) ≡ line_at text at e ∷ lines_of (split LF (drop (e + 1) text))

@@ -11,13 +11,12 @@ use borrow.Author.Tests.{eqb-true}
 use Rattle.decimals.specs.Bytes.{TAB, LF, split}
 use Rattle.decimals.specs.Decimal.{is_empty}
 use Rattle.decimals.specs.Write.{written}
+use Rattle.std.specs.Prelude.{Option, Some, None}
 use Rattle.book.specs.declared.Kind.{Kind}
 use Rattle.book.specs.Book.{width}
 use Rattle.page_line.specs.Fields.{all_plain, values, row_of}
 use Rattle.page_line.specs.Records.{Line, entry, malformed, Told, kind_in, row_in, kind_of, line_of, record_of, shape, sorts}
 use Rattle.page_line.specs.Lines.{LINE, ended_in, ended, line_at, lines_in, lines_of, text_lines_in, text_lines}
-use Rattle.page_line.specs.declared.Found.{Found}
-use Rattle.page_line.specs.declared.Found.TheVariants.{Of, Malformed}
 use Rattle.page_line.proofs.Rows.{row-length, sorts-width}
 
 abbrev pub Wide : Line → Type 0
@@ -28,12 +27,12 @@ wide-cond : (b : Bool) (x y : Line) → (b ≡ true → Wide x) → Wide y → W
 wide-cond true x y f g = f refl
 wide-cond false x y f g = g
 
-wide-shape : (f : Found) (vs : List ℕ) → Wide (shape f vs)
+wide-shape : (f : Option Kind) (vs : List ℕ) → Wide (shape f vs)
 unfolding shape
-wide-shape (Of k) vs =
+wide-shape (Some k) vs =
     wide-cond (eqb (length vs) (length (sorts k))) (entry k (row_of (sorts k) vs)) malformed
     (λ e. row-length (sorts k) vs (eqb-true (length vs) (length (sorts k)) e) ∙ sorts-width k) refl
-wide-shape Malformed vs = refl
+wide-shape None vs = refl
 
 wide-record : (ps : List (List ℕ)) → Wide (record_of ps)
 unfolding record_of
@@ -57,7 +56,7 @@ row_first : (before r : List ℕ) → take (length r) (written before 0 r) ≡ r
 unfolding written
 row_first before r = take_at r (drop (0 + length r) before) (length r) refl
 
-entry-told : (l : Line) (k : Kind) (before after : List ℕ) (w : ℕ) → Wide l → Of k ≡ kind_in l → after ≡ written before 0 (row_in l) → w ≡ width k
+entry-told : (l : Line) (k : Kind) (before after : List ℕ) (w : ℕ) → Wide l → Some k ≡ kind_in l → after ≡ written before 0 (row_in l) → w ≡ width k
     → (length (take w after) ≡ width k) × (l ≡ entry k (take w after))
 unfolding kind_in row_in
 entry-told (entry j r) k before after w g e ea ew =
@@ -67,16 +66,16 @@ entry-told (entry j r) k before after w g e ea ew =
     (rw (t, n) ew, rw (t, ek))
 entry-told malformed k before after w g e ea ew = let z : ◌≡◌ {A = ℕ} 0 1 = cc in absurd (omega arith)
 
-pub told-row : (l : Line) (k : Kind) (before after : List ℕ) (f : Found) (w : ℕ) → Told l before after f → Wide l → f ≡ Of k → w ≡ width k
+pub told-row : (l : Line) (k : Kind) (before after : List ℕ) (f : Option Kind) (w : ℕ) → Told l before after f → Wide l → f ≡ Some k → w ≡ width k
     → (length (take w after) ≡ width k) × (l ≡ entry k (take w after))
 told-row l k before after f w t g e ew = entry-told l k before after w g (sym e ∙ t.kind) t.row ew
 
-none_told : (l : Line) → Malformed ≡ kind_in l → l ≡ malformed
+none_told : (l : Line) → None ≡ kind_in l → l ≡ malformed
 unfolding kind_in
 none_told (entry k r) e = let z : ◌≡◌ {A = ℕ} 0 1 = cc in absurd (omega arith)
 none_told malformed e = refl
 
-pub told-bad : (l : Line) (before after : List ℕ) (f : Found) → Told l before after f → f ≡ Malformed → l ≡ malformed
+pub told-bad : (l : Line) (before after : List ℕ) (f : Option Kind) → Told l before after f → f ≡ None → l ≡ malformed
 told-bad l before after f t e = none_told l (sym e ∙ t.kind)
 
 -- ---- all lines of a text

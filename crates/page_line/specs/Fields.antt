@@ -1,5 +1,5 @@
 -- 01, 'Desk and page text': the fields of a line, plain decimals, and the words of the desk that they become.
-use Rattle.std.specs.Prelude.{ℕ, ◌+◌, ◌-◌, List, [], ◌∷◌, Bool, true, cond, ◌&&◌, length, eqb, leb, ltb}
+use Rattle.std.specs.Prelude.{ℕ, ◌+◌, ◌-◌, List, [], ◌∷◌, Bool, true, cond, ◌&&◌, length, leb, ltb, Option, Some, None}
 use Rattle.fixed.specs.Up.{BIAS}
 use Rattle.decimals.specs.Decimal.{BASE, plain, value}
 use Rattle.page_line.specs.declared.Sort.{Sort}
@@ -17,13 +17,9 @@ values (f ∷ fs) = value f ∷ values fs
 abbrev pub MOST : ℕ
 MOST = 12
 
--- how many fields stand behind n others, all plain and at most MOST; MOST + 1 if they are not
-unfoldable pub count_from : ℕ → List (List ℕ) → ℕ
-count_from n fs = cond (all_plain fs && leb (n + length fs) MOST) (n + length fs) (MOST + 1)
-
--- the sort of the field at i in a row of an id, coordinates, and small numbers from place m on
-unfoldable pub row_sort : ℕ → ℕ → Sort
-row_sort m i = cond (eqb i 0) Ident (cond (ltb i m) Step Small)
+-- how many fields there are, all plain and at most MOST
+unfoldable pub count_of : List (List ℕ) → Option ℕ
+count_of fs = cond (all_plain fs && leb (length fs) MOST) (Some (length fs)) None
 
 -- a word that is out of range for a coordinate, directions and a mark; an id is out of range at 0
 abbrev pub OUT : ℕ

@@ -1,11 +1,9 @@
 -- 01, 'Desk and page text': `box` id, least x, least y, greatest x, greatest y; `port` box id, x, y, directions; `net` id; `end` net id, x, y, mark.
-use Rattle.std.specs.Prelude.{ℕ, ◌≡◌, List, [], ◌∷◌, cond, length, get_or, eqb}
+use Rattle.std.specs.Prelude.{ℕ, ◌≡◌, List, [], ◌∷◌, cond, length, eqb, Option, Some, None}
 use Rattle.decimals.specs.Bytes.{TAB, split, same}
 use Rattle.decimals.specs.Write.{written}
 use Rattle.book.specs.declared.Kind.{Kind}
 use Rattle.page_line.specs.Fields.{all_plain, values, row_of}
-use Rattle.page_line.specs.declared.Found.{Found}
-use Rattle.page_line.specs.declared.Found.TheVariants.{Of, Malformed}
 use Rattle.page_line.specs.declared.Sort.{Sort}
 use Rattle.page_line.specs.declared.Sort.TheVariants.{Ident, Step, Small}
 
@@ -23,21 +21,17 @@ sorts Kind.Port = Ident ∷ Step ∷ Step ∷ Small ∷ []
 sorts Kind.Net = Ident ∷ []
 sorts Kind.End = Ident ∷ Step ∷ Step ∷ Small ∷ []
 
--- the sort of a kind's field at i, which is less than its field count
-abbrev pub sort_at : Kind → ℕ → Sort
-sort_at k i = get_or (sorts k) i Small
-
 -- the most fields of a kind
 abbrev pub ROW : ℕ
 ROW = 5
 
 -- the kind that a word names
-unfoldable pub kind_of : List ℕ → Found
+unfoldable pub kind_of : List ℕ → Option Kind
 kind_of w =
-    cond (same w (name Kind.Box)) (Of Kind.Box)
-    (cond (same w (name Kind.Port)) (Of Kind.Port)
-    (cond (same w (name Kind.Net)) (Of Kind.Net)
-    (cond (same w (name Kind.End)) (Of Kind.End) Malformed)))
+    cond (same w (name Kind.Box)) (Some Kind.Box)
+    (cond (same w (name Kind.Port)) (Some Kind.Port)
+    (cond (same w (name Kind.Net)) (Some Kind.Net)
+    (cond (same w (name Kind.End)) (Some Kind.End) None)))
 
 -- a line: a record, which is a kind and a row of words, or malformed
 pub data Line : Type 0 where
@@ -45,9 +39,9 @@ pub data Line : Type 0 where
   malformed : Line
 
 -- malformed if its word or field count is unknown or a field is no plain decimal
-unfoldable pub shape : Found → List ℕ → Line
-shape (Of k) vs = cond (eqb (length vs) (length (sorts k))) (entry k (row_of (sorts k) vs)) malformed
-shape Malformed vs = malformed
+unfoldable pub shape : Option Kind → List ℕ → Line
+shape (Some k) vs = cond (eqb (length vs) (length (sorts k))) (entry k (row_of (sorts k) vs)) malformed
+shape None vs = malformed
 
 unfoldable pub record_of : List (List ℕ) → Line
 record_of [] = malformed
@@ -58,14 +52,14 @@ unfoldable pub line_of : List ℕ → Line
 line_of body = record_of (split TAB body)
 
 -- what a reader of lines says: the kind, and the row written over the buffer's first words
-unfoldable pub kind_in : Line → Found
-kind_in (entry k r) = Of k
-kind_in malformed = Malformed
+unfoldable pub kind_in : Line → Option Kind
+kind_in (entry k r) = Some k
+kind_in malformed = None
 
 unfoldable pub row_in : Line → List ℕ
 row_in (entry k r) = r
 row_in malformed = []
 
-pub record Told (l : Line) (before after : List ℕ) (r : Found) : Type 0 where
+pub record Told (l : Line) (before after : List ℕ) (r : Option Kind) : Type 0 where
   pub kind : r ≡ kind_in l
   pub row : after ≡ written before 0 (row_in l)

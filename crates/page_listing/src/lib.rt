@@ -77,8 +77,7 @@ pub fn list_page(text: &[u8], prune: u32, separate: u32, out: &mut [u8]) -> usiz
 {
     let mut desk: [u32; desk::DESK] = [0; desk::DESK];
     let mut refusal: [u32; 2] = [0; 2];
-    let n = page_text::read_text(&mut desk, text, &mut refusal);
-    if n != 0 {
+    if page_text::read_text(&mut desk, text, &mut refusal).is_err() {
         return listing::write_refused(out, refusal[0], refusal[1]);
     }
     print_desk(&desk, prune, separate, out)

@@ -8,6 +8,7 @@ use native.Mathlib.Omega.{arith}
 use borrow.Author.Tests.{le-ltb}
 use lib.IntN.{ℤ}
 use lib.ListN.{length}
+use Rattle.std.proofs.Common.{Option, None, Some}
 use Rattle.fixed.specs.Up.{BIAS}
 use Rattle.nodes.specs.Graph.{Graph}
 use Rattle.nodes.specs.Columns.{GRAPH_WORDS, graph}
@@ -15,8 +16,6 @@ use Rattle.astar.specs.Reached.{Ready}
 use Rattle.path_finding.specs.Line.{table, place_at, direction_at, Written}
 use Rattle.anchors.specs.Records.{Records}
 use Rattle.page_graph.specs.Page.{crowded, graph_of_page, graphed}
-use Rattle.page_graph.specs.declared.Graphed.{Graphed}
-use Rattle.page_graph.specs.declared.Graphed.TheVariants.{Crowded, Nodes}
 use Rattle.page_graph.proofs.Theorem.{told-made, told-nodes}
 use Rattle.page_graph.specs.Lent.{Answered}
 use Rattle.search.specs.Searched.{Searched}
@@ -51,11 +50,11 @@ written_none cx cy ls dx dy ms a b c d w =
 
 -- ---- the lent list holds the graph
 
-module _ (r : Records) (s : Sound r) (pruned : Bool) (g : Graphed) (l : List ℤ) (a : Answered g l (crowded r) (graph_of_page r pruned)) where
+module _ (r : Records) (s : Sound r) (pruned : Bool) (g : Option ℕ) (l : List ℤ) (a : Answered g l (crowded r) (graph_of_page r pruned)) where
   abbrev G : Graph
   G = graph_of_page r pruned
 
-  ready : (n : ℕ) → g ≡ Nodes n → 0 < n → Ready (graph n l)
+  ready : (n : ℕ) → g ≡ Some n → 0 < n → Ready (graph n l)
   ready n h p =
       let e = told-nodes a n h in
       let c : n ≡ G.count = ap (λ (w : Graph). w.count) e in
@@ -78,8 +77,8 @@ module _ (r : Records) (s : Sound r) (pruned : Bool) (g : Graphed) (l : List ℤ
 
 -- ---- what is told of a graph decides which of the two it is
 
-pub not-both : {n : ℕ} {g : Graphed} → g ≡ Crowded → g ≡ Nodes n → ⊥
+pub not-both : {n : ℕ} {g : Option ℕ} → g ≡ None → g ≡ Some n → ⊥
 not-both e f = let z : ◌≡◌ {A = ℕ} 0 1 = cc in omega arith
 
-pub the-search : {n m : ℕ} {g : Graphed} (l : List ℤ) {x y num nodes : ℕ} {exs eys lx ly kinds dirs : List ℕ} → g ≡ Nodes n → g ≡ Nodes m → Searched (graph n l) x y exs eys num nodes lx ly kinds dirs → Searched (graph m l) x y exs eys num nodes lx ly kinds dirs
+pub the-search : {n m : ℕ} {g : Option ℕ} (l : List ℤ) {x y num nodes : ℕ} {exs eys lx ly kinds dirs : List ℕ} → g ≡ Some n → g ≡ Some m → Searched (graph n l) x y exs eys num nodes lx ly kinds dirs → Searched (graph m l) x y exs eys num nodes lx ly kinds dirs
 the-search {n} {m} l e f s = let k : m ≡ n = cc in rw k s

@@ -24,7 +24,7 @@ use Rattle.page_line.proofs.Rows.{sorts-width}
 use Rattle.page_line.proofs.Back.{all_fit, line-back}
 use Rattle.page_text.specs.Reading.{step_of, takes_in, takes, adds, lines_text, text_of_page}
 use Rattle.page_text.specs.Law.{Goes, none as none-goes, one as one-goes, RoundTrip}
-use Rattle.page_text.specs.declared.Step.TheVariants.{Went}
+use Rattle.std.specs.Prelude.{Ok}
 use Rattle.page_text.proofs.First.{accepts}
 
 -- ---- a record in range has words that are written and read back
@@ -126,7 +126,7 @@ lines-read (one {i = i} {is = is} o z b) =
     line-back i.kind i.row (record-long i.kind i.row o ∙ sym (sorts-width i.kind)) (record-fits i.kind i.row o) (items_text is)
     ∙ ap (λ (xs : List Line). line_for i ∷ xs) (lines-read b)
 
-went : (k : Kind) (r : Record) (l : Lists) → ok_record k r ≡ true → add_number k l (key r) ≡ 0 → takes (entry k r) l ≡ Went
+went : (k : Kind) (r : Record) (l : Lists) → ok_record k r ≡ true → add_number k l (key r) ≡ 0 → takes (entry k r) l ≡ Ok tt
 unfolding takes_in step_of take_number_in
 went k r l o z = rw (answer-n (fields_number k r) (add_number k l (key r)) (record-0 k r o), z)
 

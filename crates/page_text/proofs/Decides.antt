@@ -17,10 +17,9 @@ use Rattle.book.proofs.Keeps.{boxes-ok, nets-ok, ports-ok, ends-ok, owners-few, 
 use Rattle.page_line.specs.Records.{malformed}
 use Rattle.page_line.specs.Lines.{LINE, line_at, text_lines_in, text_lines}
 use Rattle.page_line.proofs.Lines.{at_none, at_long, line_first}
-use Rattle.page_text.specs.Reading.{takes_in, takes, adds, refused, onward, feed_in, feed, read_in}
+use Rattle.page_text.specs.Reading.{Step, takes_in, takes, adds, refused, onward, feed_in, feed, read_in}
 use Rattle.page_text.specs.Law.{TEXT, Decides}
-use Rattle.page_text.specs.declared.Step.{Step}
-use Rattle.page_text.specs.declared.Step.TheVariants.{Went, Bad}
+use Rattle.std.specs.Prelude.{Ok, Err}
 use Rattle.page_text.proofs.Turns.{total, total-adds}
 use Rattle.page_text.proofs.Limits.{ok-adds, none-ok}
 
@@ -121,8 +120,8 @@ feed-front (suc m) n k l xs ok t h =
             → ((y : Lists) → ok_lists y ≡ true → total y + m ≡ 641 → m * LINE ≤ k - (place LF xs + 1) → feed (n + 1) y (text_lines (take (k - (place LF xs + 1)) rest)) ≡ feed (n + 1) y (text_lines rest))
             → onward s (n + 1) (feed (n + 1) (adds (line_at xs 0 (place LF xs)) l) (text_lines (take (k - (place LF xs + 1)) rest)))
             ≡ onward s (n + 1) (feed (n + 1) (adds (line_at xs 0 (place LF xs)) l) (text_lines rest))
-        on Went u f ih = ih (adds (line_at xs 0 (place LF xs)) l) (ok-adds (line_at xs 0 (place LF xs)) l ok u) (omega (arith, total-adds (line_at xs 0 (place LF xs)) l u)) (omega arith)
-        on (Bad i) u f ih = refl
+        on (Ok v) u f ih = ih (adds (line_at xs 0 (place LF xs)) l) (ok-adds (line_at xs 0 (place LF xs)) l ok u) (omega (arith, total-adds (line_at xs 0 (place LF xs)) l u)) (omega arith)
+        on (Err i) u f ih = refl
 
 pub decides : Decides
 unfolding read_in total

@@ -2,9 +2,9 @@
 use mathlib.Core.Path.{◌≡◌, refl, ap, ◌∙◌}
 use mathlib.Core.List.{List, [], ◌∷◌}
 use mathlib.Core.Bool.{Bool, true, false, cond}
-use Prim.Native.Nat.{ℕ, zero, suc, ◌+◌, ◌-◌, ◌≤◌}
+use Prim.Native.Nat.{ℕ, ◌+◌, ◌≤◌}
 use native.Mathlib.Omega.{arith}
-use lib.ListN.{length, replicate}
+use lib.ListN.{length}
 use lib.Dec.{ltb}
 use borrow.Author.Tests.{lt-ltb, ltb-true}
 use Rattle.decimals.specs.Bytes.{LF, split}
@@ -14,17 +14,16 @@ use Rattle.book.specs.Book.{Lists, no_lists, book_with, take_number_in}
 use Rattle.book.proofs.Fields.{take-rises}
 use Rattle.page_line.specs.Records.{Line, entry, malformed, line_of}
 use Rattle.page_line.specs.Lines.{LINE, ended_in, lines_in, text_lines_in}
-use Rattle.page_text.specs.Reading.{Reading, step_of, takes_in, adds, accepted, onward, feed_in, read_in, read_text}
-use Rattle.page_text.specs.Words.{REFUSAL, told, read_number, read_words, read_refusal}
+use Rattle.page_text.specs.Reading.{Step, Reading, step_of, takes_in, adds, accepted, onward, feed_in, read_in, read_text}
+use Rattle.page_text.specs.Words.{read_number, read_words, read_refusal}
 use Rattle.page_text.specs.LastYear.{LastYear, ThisYear, Rises, LastYearCall}
-use Rattle.page_text.specs.declared.Step.{Step}
-use Rattle.page_text.specs.declared.Step.TheVariants.{Went, Bad}
+use Rattle.std.specs.Prelude.{Ok, Err}
 use Rattle.page_text.proofs.First.{accepts, accepted-goes}
-use Rattle.page_text.proofs.Told.{both-lent}
+use Rattle.page_text.proofs.Told.{both-lent, told_none}
 use Rattle.page_text.proofs.Turns.{step-0, decoded}
 
 module _ (line line' top top' : ℕ) (hl : line ≤ line') (ht : top ≤ top') where
-  takes-rises : (x : Line) (l : Lists) → takes_in top x l ≡ Went → takes_in top' x l ≡ Went
+  takes-rises : (x : Line) (l : Lists) → takes_in top x l ≡ Ok tt → takes_in top' x l ≡ Ok tt
   unfolding takes_in step_of
   takes-rises (entry k r) l e = rw (take-rises top top' ht k r l (step-0 (take_number_in top k r l) e))
   takes-rises malformed l e = e
@@ -38,8 +37,8 @@ module _ (line line' top top' : ℕ) (hl : line ≤ line') (ht : top ≤ top') w
     where
       go : (s : Step) → takes_in top x l ≡ s → (onward s (n + 1) (feed_in top (n + 1) (adds x l) xs)).number ≡ 0
           → onward (takes_in top' x l) (n + 1) (feed_in top' (n + 1) (adds x l) ys) ≡ onward s (n + 1) (feed_in top (n + 1) (adds x l) xs)
-      go Went t e = rw (takes-rises x l t) (ih e)
-      go (Bad k) t e = absurd (omega arith)
+      go (Ok v) t e = rw (takes-rises x l t) (ih e)
+      go (Err k) t e = absurd (omega arith)
 
   feed-rises : (n : ℕ) (l : Lists) (ps : List (List ℕ)) → (feed_in top n l (lines_in line ps)).number ≡ 0
       → feed_in top' n l (lines_in line' ps) ≡ feed_in top n l (lines_in line ps)
@@ -70,12 +69,6 @@ pub this-year : ThisYear
 this-year text = refl
 
 -- ---- of the call
-told_none : (n : ℕ) → REFUSAL ≤ n → told 0 0 n ≡ replicate n 0
-unfolding told
-told_none zero h = absurd (omega arith)
-told_none (suc zero) h = absurd (omega arith)
-told_none (suc (suc n)) h = let e : suc (suc n) - REFUSAL ≡ n = omega arith in rw e
-
 pub last-year-call : LastYearCall
 unfolding read_number read_words read_refusal
 last-year-call text ws out hd hr e =

@@ -16,19 +16,18 @@ use Rattle.book.proofs.Keeps
 use Rattle.page_line.specs.Records.{Line, entry, malformed}
 use Rattle.page_line.specs.Lines.{text_lines}
 use Rattle.page_line.proofs.Wide.{AllWide, wide-lines}
-use Rattle.page_text.specs.Reading.{step_of, takes_in, takes, adds, onward, feed_in, feed, read_in, read_text}
+use Rattle.page_text.specs.Reading.{Step, step_of, takes_in, takes, adds, onward, feed_in, feed, read_in, read_text}
 use Rattle.page_text.specs.Words.{leaves, onward_words, feed_words, text_words}
-use Rattle.page_text.specs.declared.Step.{Step}
-use Rattle.page_text.specs.declared.Step.TheVariants.{Went, Bad}
+use Rattle.std.specs.Prelude.{Ok, Err}
 use Rattle.page_text.proofs.Turns.{After, after, bad-went, step-0}
 
 -- ---- the length
 -- a line that stops the reading leaves the words as they were
-pub left-bad : (x : Line) (ws : List ℕ) (n : ℕ) → takes x (lists_of (block ws)) ≡ Bad n → leaves x ws ≡ ws
+pub left-bad : (x : Line) (ws : List ℕ) (n : ℕ) → takes x (lists_of (block ws)) ≡ Err n → leaves x ws ≡ ws
 unfolding takes_in leaves step_of at0
 left-bad (entry k r) ws n e = go (eqb (take_number k r (lists_of (block ws))) 0) e
   where
-    go : (b : Bool) → cond b Went (Bad (take_number k r (lists_of (block ws)))) ≡ Bad n → cond b (taken k r ws) ws ≡ ws
+    go : (b : Bool) → ◌≡◌ {A = Step} (cond b (Ok tt) (Err (take_number k r (lists_of (block ws))))) (Err n) → cond b (taken k r ws) ws ≡ ws
     go true e = bad-went n (sym e)
     go false e = refl
 left-bad malformed ws n e = refl
@@ -40,15 +39,15 @@ length-feed ws (x ∷ xs) ready w = go (takes x (lists_of (block ws))) refl (λ 
   where
     go : (s : Step) → takes x (lists_of (block ws)) ≡ s → (After x ws (leaves x ws) → length (feed_words (leaves x ws) xs) ≡ length (leaves x ws))
         → length (onward_words s (leaves x ws) (feed_words (leaves x ws) xs)) ≡ length ws
-    go Went t ih = let a = after x ws ready w.0 t in ih a ∙ a.long
-    go (Bad k) t ih = length-emptied (leaves x ws) ∙ ap length (left-bad x ws k t)
+    go (Ok v) t ih = let a = after x ws ready w.0 t in ih a ∙ a.long
+    go (Err k) t ih = length-emptied (leaves x ws) ∙ ap length (left-bad x ws k t)
 
 pub length-text : (text ws : List ℕ) → DESK ≤ length ws → length (text_words text ws) ≡ length ws
 unfolding text_words
 length-text text ws h = length-feed (emptied ws) (text_lines text) (ready-emptied ws h) (wide-lines text) ∙ length-emptied ws
 
 -- ---- the limits
-pub ok-adds : (x : Line) (l : Lists) → ok_lists l ≡ true → takes x l ≡ Went → ok_lists (adds x l) ≡ true
+pub ok-adds : (x : Line) (l : Lists) → ok_lists l ≡ true → takes x l ≡ Ok tt → ok_lists (adds x l) ≡ true
 unfolding takes_in adds take_number_in
 ok-adds (entry k r) l ok e =
     let p = answer-0 true (fields_number k r) (add_number k l (key r)) (step-0 (take_number k r l) e) in
@@ -66,8 +65,8 @@ ok-feed n l (x ∷ xs) ok = go (takes x l) refl (ok-feed (n + 1) (adds x l) xs)
   where
     go : (s : Step) → takes x l ≡ s → (ok_lists (adds x l) ≡ true → ok_lists (feed (n + 1) (adds x l) xs).lists ≡ true)
         → ok_lists (onward s (n + 1) (feed (n + 1) (adds x l) xs)).lists ≡ true
-    go Went t ih = ih (ok-adds x l ok t)
-    go (Bad k) t ih = none-ok
+    go (Ok v) t ih = ih (ok-adds x l ok t)
+    go (Err k) t ih = none-ok
 
 pub ok-text : (text : List ℕ) → ok_lists (read_text text).lists ≡ true
 unfolding read_in

@@ -1,58 +1,53 @@
--- The refusal's words, written as a copy of zeros and then two stores, and the three ways in which reading ends.
+-- The refusal's words, and the three ways in which reading ends.
 use mathlib.Core.Path.{◌≡◌, refl, sym, ap, ◌∙◌}
-use mathlib.Core.List.{List, [], ◌++◌, append-nil}
+use mathlib.Core.List.{List}
 use mathlib.Core.Bool.{true, false}
-use mathlib.Core.Logic.{⊎_elim}
-use Prim.Native.Nat.{ℕ, zero, suc, ◌+◌, ◌-◌, ◌≤◌, ◌<◌}
+use mathlib.Core.Logic.{◌⊎◌, inl, inr}
+use Prim.Native.Nat.{ℕ, zero, suc, ◌-◌, ◌≤◌, ◌<◌}
 use native.Mathlib.Omega.{arith}
-use lib.ListN.{length, get_or, drop, set, replicate, length-replicate, get_or-replicate, drop_of_length-le}
+use lib.ListN.{length, set, replicate}
 use lib.Dec.{leb}
 use borrow.Author.Tests.{le-leb, lt-leb}
-use Rattle.decimals.specs.Write.{written}
+use Rattle.std.specs.Prelude.{Result, Ok, Err}
 use Rattle.decimals.proofs.Bools.{and-false}
-use Rattle.decimals.proofs.Written.{Copy, copy-on, copy-end, written_none}
 use Rattle.desk.specs.Sizes.{DESK}
 use Rattle.book.specs.Book.{no_lists}
 use Rattle.page_line.specs.Lines.{text_lines}
-use Rattle.page_text.specs.Reading.{read_in, read_text}
+use Rattle.page_text.specs.Reading.{Reading, read_in, read_text}
 use Rattle.page_text.specs.Words.{REFUSAL, told, is_lent, read_number, read_refusal, read_words, stop_of, text_words}
 use Rattle.page_text.specs.declared.Stop.{Stop}
-use Rattle.page_text.proofs.First.{feed-number}
+use Rattle.page_text.proofs.First.{Done, feed-number}
 
--- ---- zeros, written one by one, and two stores over them
+-- ---- two stores over zeros, and none
 store : (line inner n : ℕ) → REFUSAL ≤ n → set (set (replicate n 0) 0 line) 1 inner ≡ told line inner n
 unfolding told
 store line inner zero h = absurd (omega arith)
 store line inner (suc zero) h = absurd (omega arith)
 store line inner (suc (suc n)) h = let e : suc (suc n) - REFUSAL ≡ n = omega arith in rw e
 
-abbrev pub zeros : List ℕ → List ℕ
-zeros start = replicate (length start) 0
+pub told_none : (n : ℕ) → REFUSAL ≤ n → told 0 0 n ≡ replicate n 0
+unfolding told
+told_none zero h = absurd (omega arith)
+told_none (suc zero) h = absurd (omega arith)
+told_none (suc (suc n)) h = let e : suc (suc n) - REFUSAL ≡ n = omega arith in rw e
 
-abbrev pub Zeros : List ℕ → List ℕ → ℕ → Type 0
-Zeros start out i = Copy start out (zeros start) 0 i
+-- ---- where a reading stops
+ok-err : {A : Type 0} (s : Stop) → ◌≡◌ {A = Result (Unit {0}) Stop} (Ok tt) (Err s) → A
+ok-err s e = let z : ◌≡◌ {A = ℕ} 0 1 = cc in absurd (omega arith)
 
-pub zero-first : (start : List ℕ) → Zeros start start 0
-zero-first start = record { most = omega arith; long = refl; whole = written_none start 0 (omega arith) }
+err-err : (s t : Stop) → ◌≡◌ {A = Result (Unit {0}) Stop} (Err s) (Err t) → s ≡ t
+err-err s t e = cc
 
-module _ (start out : List ℕ) (i : ℕ) (z : Zeros start out i) where
-  pub zero-on : i < length out → Zeros start (set out i 0) (i + 1)
-  zero-on h =
-      let l : length (zeros start) ≡ length start = length-replicate {A = ℕ} (length start) 0 in
-      let e : get_or (zeros start) i 0 ≡ 0 = get_or-replicate {A = ℕ} (length start) i 0 0 (omega (arith, z.long)) in
-      let s : 0 + i ≡ i = omega arith in
-      rw (e, s) at (copy-on start out (zeros start) 0 i z (omega (arith, z.long)) (omega arith))
+module _ (r : Reading) where
+  gone : Done r ⊎ (r.number ≡ 16) → Ok tt ≡ stop_of r → Done r
+  unfolding stop_of
+  gone (inl p) e = p
+  gone (inr p) e = ok-err _ (rw p at e)
 
-  all-zeros : length out ≤ i → out ≡ zeros start
-  unfolding written
-  all-zeros h =
-      let l : length (zeros start) ≡ length start = length-replicate {A = ℕ} (length start) 0 in
-      let d : drop (0 + length (zeros start)) start ≡ [] = drop_of_length-le start {i = 0 + length (zeros start)} (omega arith) in
-      (copy-end start out (zeros start) 0 i z (omega (arith, z.long))).bytes
-      ∙ ap (λ (t : List ℕ). zeros start ++ t) d ∙ append-nil (zeros start)
-
-  pub zero-end : (line inner : ℕ) → length out ≤ i → REFUSAL ≤ length start → set (set out 0 line) 1 inner ≡ told line inner (length start)
-  zero-end line inner h k = rw (all-zeros h) (store line inner (length start) k)
+  stopped : Done r ⊎ (r.number ≡ 16) → (s : Stop) → Err s ≡ stop_of r → (r.number ≡ 16) × (s ≡ record { line = r.line; inner = r.inner })
+  unfolding stop_of
+  stopped (inl p) s e = ok-err s (sym (rw p.0 at e))
+  stopped (inr p) s e = (p, err-err s _ (rw p at e))
 
 -- ---- how reading ends
 pub both-lent : (ws out : List ℕ) → DESK ≤ length ws → REFUSAL ≤ length out → is_lent ws out ≡ true
@@ -72,24 +67,22 @@ module _ (text ws out : List ℕ) where
   unfolding is_lent
   short-out h = none_lent (rw (lt-leb REFUSAL (length out) h) (and-false (leb DESK (length ws))))
 
-  module _ (hd : DESK ≤ length ws) (hr : REFUSAL ≤ length out) (ws' out' : List ℕ) (s : Stop) (es : s ≡ stop_of (read_text text)) (ew : ws' ≡ text_words text ws)
-      (eo : out' ≡ told s.line s.inner (length out)) where
-    line_is : s.line ≡ (read_text text).line
-    unfolding stop_of
-    line_is = ap (λ (t : Stop). t.line) es
-
-    inner-is : s.inner ≡ (read_text text).inner
-    unfolding stop_of
-    inner-is = ap (λ (t : Stop). t.inner) es
-
-    ends : (n : ℕ) → n ≡ (read_text text).number → (n ≡ read_number text ws out) × (ws' ≡ read_words text ws out) × (out' ≡ read_refusal text ws out)
+  module _ (hd : DESK ≤ length ws) (hr : REFUSAL ≤ length out) (ws' : List ℕ) (ew : ws' ≡ text_words text ws) where
+    ends : (n : ℕ) (out' : List ℕ) → n ≡ (read_text text).number → out' ≡ told (read_text text).line (read_text text).inner (length out)
+        → (n ≡ read_number text ws out) × (ws' ≡ read_words text ws out) × (out' ≡ read_refusal text ws out)
     unfolding read_number read_words read_refusal
-    ends n e = rw (both-lent ws out hd hr) (e, ew, rw (line_is, inner-is) at eo)
+    ends n out' e eo = rw (both-lent ws out hd hr) (e, ew, eo)
 
-    pub ends-0 : s.line ≡ 0 → (0 ≡ read_number text ws out) × (ws' ≡ read_words text ws out) × (out' ≡ read_refusal text ws out)
+    pub ends-0 : Ok tt ≡ stop_of (read_text text) → (out' : List ℕ) → out' ≡ replicate (length out) 0
+        → (0 ≡ read_number text ws out) × (ws' ≡ read_words text ws out) × (out' ≡ read_refusal text ws out)
     unfolding read_in
-    ends-0 h = ends 0 (⊎_elim (λ p. sym p.0) (λ p. absurd (omega (arith, line_is, p.1))) (feed-number 0 no_lists (text_lines text)))
+    ends-0 e out' eo =
+        let d = gone (read_text text) (feed-number 0 no_lists (text_lines text)) e in
+        ends 0 out' (sym d.0) (rw (d.1, d.2) (eo ∙ sym (told_none (length out) hr)))
 
-    pub ends-16 : (s.line ≡ 0 → ⊥) → (16 ≡ read_number text ws out) × (ws' ≡ read_words text ws out) × (out' ≡ read_refusal text ws out)
+    pub ends-16 : (s : Stop) → Err s ≡ stop_of (read_text text) → (out' : List ℕ) → out' ≡ set (set (replicate (length out) 0) 0 s.line) 1 s.inner
+        → (16 ≡ read_number text ws out) × (ws' ≡ read_words text ws out) × (out' ≡ read_refusal text ws out)
     unfolding read_in
-    ends-16 h = ends 16 (⊎_elim (λ p. absurd (h (line_is ∙ p.1))) (λ p. sym p.0) (feed-number 0 no_lists (text_lines text)))
+    ends-16 s e out' eo =
+        let d = stopped (read_text text) (feed-number 0 no_lists (text_lines text)) s e in
+        ends 16 out' (sym d.0) (eo ∙ store s.line s.inner (length out) hr ∙ ap (λ (t : Stop). told t.line t.inner (length out)) d.1)

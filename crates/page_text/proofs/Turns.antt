@@ -21,22 +21,21 @@ use Rattle.page_line.specs.Records.{Line, entry, malformed}
 use Rattle.page_line.specs.Lines.{line_at, lines_in, text_lines_in, text_lines}
 use Rattle.page_line.proofs.Lines.{line-end, line_first}
 use Rattle.page_line.proofs.Wide.{Wide, AllWide, wide_at, wide-lines}
-use Rattle.page_text.specs.Reading.{step_of, takes_in, takes, adds, Reading, accepted, refused, onward, feed_in, feed, read_in, read_text}
+use Rattle.page_text.specs.Reading.{Step, step_of, takes_in, takes, adds, Reading, accepted, refused, onward, feed_in, feed, read_in, read_text}
 use Rattle.page_text.specs.Words.{leaves, onward_words, feed_words, text_words, stop_of}
 use Rattle.page_text.specs.Law.{Decoded}
-use Rattle.page_text.specs.declared.Step.{Step}
-use Rattle.page_text.specs.declared.Step.TheVariants.{Went, Bad}
+use Rattle.std.specs.Prelude.{Result, Ok, Err}
 use Rattle.page_text.specs.declared.Stop.{Stop}
 
 -- ---- a line that goes
-pub bad-went : {A : Type 0} (n : ℕ) → Bad n ≡ Went → A
+pub bad-went : {A : Type 0} (n : ℕ) → ◌≡◌ {A = Step} (Err n) (Ok tt) → A
 bad-went n e = let z : ◌≡◌ {A = ℕ} 0 1 = cc in absurd (omega arith)
 
-pub step-0 : (n : ℕ) → step_of n ≡ Went → n ≡ 0
+pub step-0 : (n : ℕ) → step_of n ≡ Ok tt → n ≡ 0
 unfolding step_of
 step-0 n e = go (eqb n 0) refl e
   where
-    go : (b : Bool) → eqb n 0 ≡ b → cond b Went (Bad n) ≡ Went → n ≡ 0
+    go : (b : Bool) → eqb n 0 ≡ b → ◌≡◌ {A = Step} (cond b (Ok tt) (Err n)) (Ok tt) → n ≡ 0
     go true q e = eqb-true n 0 q
     go false q e = bad-went n e
 
@@ -63,7 +62,7 @@ after-taken k r ws ready hw e =
     rw (is-taken k r ws e)
     (record { ready = ready-taken k r ws ready hw room; long = length_taken k r ws ready hw room; lists = lists-taken k r ws ready hw room; settled = settled-taken k r ws ready hw room })
 
-pub after : (x : Line) (ws : List ℕ) → Ready ws → Wide x → takes x (lists_of (block ws)) ≡ Went → After x ws (leaves x ws)
+pub after : (x : Line) (ws : List ℕ) → Ready ws → Wide x → takes x (lists_of (block ws)) ≡ Ok tt → After x ws (leaves x ws)
 unfolding takes_in
 after (entry k r) ws ready hw e = after-taken k r ws ready hw (step-0 (take_number k r (lists_of (block ws))) e)
 after malformed ws ready hw e = bad-went 0 e
@@ -79,7 +78,7 @@ total-with Kind.Port r l = rw (length-append l.ports (r ∷ [])) (omega arith)
 total-with Kind.Net r l = rw (length-append l.nets (r ∷ [])) (omega arith)
 total-with Kind.End r l = rw (length-append l.ends (r ∷ [])) (omega arith)
 
-pub total-adds : (x : Line) (l : Lists) → takes x l ≡ Went → total (adds x l) ≡ total l + 1
+pub total-adds : (x : Line) (l : Lists) → takes x l ≡ Ok tt → total (adds x l) ≡ total l + 1
 unfolding adds takes_in
 total-adds (entry k r) l e = total-with k r l
 total-adds malformed l e = bad-went 0 e
@@ -118,7 +117,7 @@ read_first text given start h e =
     }
 
 -- ---- a turn
-bad-end : (text : List ℕ) (at e : ℕ) (l : Lists) → takes (line_at text at e) l ≡ Went → (e ≡ length text → ⊥)
+bad-end : (text : List ℕ) (at e : ℕ) (l : Lists) → takes (line_at text at e) l ≡ Ok tt → (e ≡ length text → ⊥)
 unfolding line_at takes_in
 bad-end text at e l w h = bad-went 0 (rw (eq-eqb e (length text) h) at w)
 
@@ -136,10 +135,10 @@ module _ (text ws ws' start : List ℕ) (at e n : ℕ) (s : Step) (r : Read text
   unfolding feed_words
   words-here = sym r.words ∙ ap (feed_words ws) rest ∙ rw (← es, ← ew)
 
-  pub turn_on : s ≡ Went → Read text start ws' (e + 1) (n + 1)
+  pub turn_on : s ≡ Ok tt → Read text start ws' (e + 1) (n + 1)
   unfolding onward onward_words
   turn_on g =
-      let w : takes (line_at text at e) (lists_of (block ws)) ≡ Went = sym es ∙ g in
+      let w : takes (line_at text at e) (lists_of (block ws)) ≡ Ok tt = sym es ∙ g in
       let a : After (line_at text at e) ws ws' = rw ew (after (line_at text at e) ws r.ready (wide_at text at e) w) in
       let l = a.lists in
       let m = bad-end text at e (lists_of (block ws)) w in
@@ -152,7 +151,7 @@ module _ (text ws ws' start : List ℕ) (at e n : ℕ) (s : Step) (r : Read text
         words = sym (words-here ∙ rw g);
       }
 
-  pub turn-bad : (k : ℕ) → s ≡ Bad k → (read_text text ≡ refused (n + 1) k) × (feed_words start (text_lines text) ≡ emptied ws')
+  pub turn-bad : (k : ℕ) → s ≡ Err k → (read_text text ≡ refused (n + 1) k) × (feed_words start (text_lines text) ≡ emptied ws')
   unfolding onward onward_words
   turn-bad k g = (lists-here ∙ rw g, words-here ∙ rw g)
 
@@ -168,16 +167,16 @@ turn_end text ws start at n r h =
     (sym r.lists ∙ ap (feed n (lists_of (block ws))) e, sym r.words ∙ ap (feed_words ws) e)
 
 -- ---- what is told at the end
-pub finish : (text start given w : List ℕ) (s : Stop) (o : Reading) → start ≡ emptied given → (read_text text ≡ o) × (feed_words start (text_lines text) ≡ w)
+pub finish : (text start given w : List ℕ) (s : Result (Unit {0}) Stop) (o : Reading) → start ≡ emptied given → (read_text text ≡ o) × (feed_words start (text_lines text) ≡ w)
     → s ≡ stop_of o → (s ≡ stop_of (read_text text)) × (w ≡ text_words text given)
 unfolding text_words
 finish text start given w s o es p e = (e ∙ ap stop_of (sym p.0), sym p.1 ∙ ap (λ (t : List ℕ). feed_words t (text_lines text)) es)
 
-pub stop-none : (l : Lists) → ◌≡◌ {A = Stop} (record { line = 0; inner = 0 }) (stop_of (accepted l))
+pub stop-none : (l : Lists) → Ok tt ≡ stop_of (accepted l)
 unfolding stop_of
 stop-none l = refl
 
-pub stop-at : (n k : ℕ) → ◌≡◌ {A = Stop} (record { line = n; inner = k }) (stop_of (refused n k))
+pub stop-at : (n k : ℕ) → Err (record { line = n; inner = k }) ≡ stop_of (refused n k)
 unfolding stop_of
 stop-at n k = refl
 
@@ -193,11 +192,11 @@ feed-decoded n ws (x ∷ xs) ready w e = go (takes x (lists_of (block ws))) refl
         → book_of (feed_words (leaves x ws) xs) ≡ book_with (feed (n + 1) (lists_of (block (leaves x ws))) xs).lists)
         → book_of (onward_words s (leaves x ws) (feed_words (leaves x ws) xs))
         ≡ book_with (onward s (n + 1) (feed (n + 1) (adds x (lists_of (block ws))) xs)).lists
-    go Went t ih =
+    go (Ok v) t ih =
         let a = after x ws ready w.0 t in
         ih a (a.settled e)
         ∙ ap (λ (l : Lists). book_with (feed (n + 1) l xs).lists) a.lists
-    go (Bad k) t ih = book-emptied (leaves x ws)
+    go (Err k) t ih = book-emptied (leaves x ws)
 
 pub decoded : Decoded
 unfolding text_words read_in

@@ -1,5 +1,5 @@
 -- The statements about reading, each proved in proofs/.
-use Rattle.std.specs.Prelude.{ℕ, ◌+◌, ◌*◌, ◌≤◌, ◌≡◌, List, [], ◌∷◌, ◌++◌, true, length, take}
+use Rattle.std.specs.Prelude.{ℕ, ◌+◌, ◌*◌, ◌≤◌, ◌≡◌, List, [], ◌∷◌, ◌++◌, true, length, take, Ok, Err}
 use Rattle.desk.specs.Sizes.{DESK}
 use Rattle.book.specs.Book.{Lists, no_lists, book_with, ok_lists}
 use Rattle.desk.specs.Desk.{book_of}
@@ -7,12 +7,11 @@ use Rattle.page_line.specs.Records.{Line}
 use Rattle.page_line.specs.Lines.{LINE, text_lines}
 use Rattle.page_text.specs.Reading.{takes, adds, accepted, refused, read_text, text_of_page}
 use Rattle.page_text.specs.Words.{text_words}
-use Rattle.page_text.specs.declared.Step.TheVariants.{Went, Bad}
 
 -- every line goes, one behind another, from the lists l to the lists m
 pub data Goes : Lists → List Line → Lists → Type 0 where
   none : {l : Lists} → Goes l [] l
-  one : {l m : Lists} {x : Line} {xs : List Line} → takes x l ≡ Went → Goes (adds x l) xs m → Goes l (x ∷ xs) m
+  one : {l m : Lists} {x : Line} {xs : List Line} → takes x l ≡ Ok tt → Goes (adds x l) xs m → Goes l (x ∷ xs) m
 
 -- a text is accepted exactly if all its lines go
 abbrev pub Accepts : Type 0
@@ -30,7 +29,7 @@ pub record FirstBad (lines : List Line) (line inner : ℕ) : Type 0 where
   pub whole : lines ≡ good ++ (bad ∷ rest)
   pub place : line ≡ length good + 1
   pub goes : Goes no_lists good lists
-  pub stops : takes bad lists ≡ Bad inner
+  pub stops : takes bad lists ≡ Err inner
 
 -- a text is refused exactly at its first bad line
 abbrev pub Refuses : Type 0

@@ -1,22 +1,23 @@
 -- 01, 'Desk and page text': reading a page text first empties the lists, then adds its lines without copies; the first line that is malformed
 -- or refused stops it with 16, its 1-based line and the inner number, and empties the lists again.
-use Rattle.std.specs.Prelude.{ℕ, ◌+◌, List, [], ◌∷◌, ◌++◌, cond, eqb}
+use Rattle.std.specs.Prelude.{ℕ, ◌+◌, List, [], ◌∷◌, ◌++◌, cond, eqb, Result, Ok, Err}
 use Rattle.book.specs.declared.Kind.{Kind}
 use Rattle.book.specs.Sizes.{IDS}
 use Rattle.book.specs.Book.{Record, Lists, no_lists, take_number_in, with_record}
 use Rattle.page_line.specs.Records.{Line, entry, malformed}
 use Rattle.page_line.specs.Lines.{LINE, text_lines_in}
 use Rattle.page_line.specs.Write.{line_text}
-use Rattle.page_text.specs.declared.Step.{Step}
-use Rattle.page_text.specs.declared.Step.TheVariants.{Went, Bad}
 
--- what a line gets on the lists: its record's number, or 0 if it is malformed, which is tested no further
+-- what a line gets on the lists: it goes, or it does not, with the inner number: its record's, or 0 if it is malformed, which is tested no further
+abbrev pub Step : Type 0
+Step = Result (Unit {0}) ℕ
+
 unfoldable pub step_of : ℕ → Step
-step_of n = cond (eqb n 0) Went (Bad n)
+step_of n = cond (eqb n 0) (Ok tt) (Err n)
 
 unfoldable pub takes_in : ℕ → Line → Lists → Step
 takes_in top (entry k r) l = step_of (take_number_in top k r l)
-takes_in top malformed l = Bad 0
+takes_in top malformed l = Err 0
 
 abbrev pub takes : Line → Lists → Step
 takes = takes_in IDS
@@ -40,8 +41,8 @@ abbrev pub refused : ℕ → ℕ → Reading
 refused line inner = record { number = 16; line = line; inner = inner; lists = no_lists }
 
 unfoldable pub onward : Step → ℕ → Reading → Reading
-onward Went line rest = rest
-onward (Bad inner) line rest = refused line inner
+onward (Ok x) line rest = rest
+onward (Err inner) line rest = refused line inner
 
 -- the lines behind the first n
 unfoldable pub feed_in : ℕ → ℕ → Lists → List Line → Reading

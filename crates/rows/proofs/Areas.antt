@@ -1,5 +1,5 @@
 -- Areas: what stands in one after a row is put last or taken out.
---     put_last_lem, take_out                                   what the two functions leave, as the definitions say it
+--     is_out, is_in                                     what the two functions leave, as the definitions say it
 --     put_count, put-records, cut-count, cut-records       the count and the records then
 --     length-put, length_cut
 use mathlib.Core.Path.{◌≡◌, sym, ap, ◌∙◌}
@@ -10,24 +10,29 @@ use native.Mathlib.Numerals.{add-one}
 use native.Mathlib.Omega.{arith}
 use lib.ListN.{length, get_or, take, drop, set, length-take, length-drop, length-set, take-append-drop}
 use lib.Seq
+use Rattle.std.specs.List.{copy_within}
 use Rattle.rows.specs.Rows.{pasted, rows, records, put_last, taken_out, put_in, without, inserted}
 use Rattle.rows.proofs.Rows.{one_more, the_rest, take-drop, rows_snoc, rows-prefix, rows-without, rows-inserted}
 
-pub put_last_lem : (row area l : List ℕ) (n : ℕ) → n ≡ get_or area 0 0 → l ≡ pasted area (1 + n * length row) row (length row)
-    → set l 0 (get_or area 0 0 + 1) ≡ put_last (length row) row area
-unfolding put_last
-put_last_lem row area l n en e = rw (e, en)
+-- the two functions move rows by `copy_within`
+pub is_out : (w i : ℕ) (area l : List ℕ) → i < get_or area 0 0
+    → l ≡ copy_within area (1 + (i + 1) * w) (1 + get_or area 0 0 * w) (1 + i * w) → set l 0 (get_or area 0 0 - 1) ≡ taken_out w i area
+unfolding taken_out pasted
+is_out w i area l h e =
+    let n : ℕ = get_or area 0 0 in
+    let m : 1 + n * w - (1 + (i + 1) * w) ≡ (n - (i + 1)) * w = omega (arith, the_rest n i w h) in
+    rw (e, m)
 
-pub take_out : (w i n : ℕ) (area l : List ℕ) → n ≡ get_or area 0 0
-    → l ≡ pasted area (1 + i * w) (drop (1 + (i + 1) * w) area) ((n - (i + 1)) * w) → set l 0 (get_or area 0 0 - 1) ≡ taken_out w i area
-unfolding taken_out
-take_out w i n area l en e = rw (e, en)
-
-pub put-in : (row area l m : List ℕ) (i n : ℕ) → n ≡ get_or area 0 0
-    → m ≡ pasted area (1 + i * length row + length row) (drop (1 + i * length row) area) ((n - i) * length row)
+pub is_in : (row area l m : List ℕ) (i : ℕ) → i ≤ get_or area 0 0
+    → m ≡ copy_within area (1 + i * length row) (1 + get_or area 0 0 * length row) (1 + i * length row + length row)
     → l ≡ pasted m (1 + i * length row) row (length row) → set l 0 (get_or area 0 0 + 1) ≡ put_in (length row) i row area
-unfolding put_in
-put-in row area l m i n en em e = rw (e, em, en)
+unfolding put_in pasted
+is_in row area l m i h em e =
+    let n : ℕ = get_or area 0 0 in
+    let w : ℕ = length row in
+    let k : n - i + i ≡ n = omega arith in
+    let q : 1 + n * w - (1 + i * w) ≡ (n - i) * w = omega (arith, add-mul (n - i) i w, ap (λ (t : ℕ). t * w) k) in
+    rw (e, em, q)
 
 back_one : (k : ℕ) → 0 < k → k - 1 + 1 ≡ k
 back_one k h = omega arith

@@ -1,4 +1,4 @@
-pub mod Words
 pub mod Rows
 pub mod Areas
 pub mod Parts
+pub mod Chunks

@@ -1,13 +1,14 @@
 -- Laws of rows in words, and the steps of the loops that search them.
 --     length-rows, rows_split, rows-prefix, rows_snoc, rows-without, rows_take    rows by their words
 --     length-records, record-split, ids-from                                      the rows of an area and their keys
---     find-here, find_on, find-end                                                the turns of the search for a place
+--     found_here, find_on, found_none                                             the turns of the search for a place
 --     seek-on, seek-end                                                           the turns of the search without an exit
 --     gather-on, gather-end                                                       the turns of the copy of the keys
 --     pass, fail, done                                                            the turns of a scan
 use mathlib.Core.Path.{◌≡◌, refl, sym, ap, ◌∙◌}
 use mathlib.Core.List.{List, [], ◌∷◌, ◌++◌, append_assoc, append-nil, map}
 use mathlib.Core.Bool.{Bool, true, false, cond, ◌&&◌, ◌||◌}
+use Rattle.std.proofs.Common.{Some, None}
 use Prim.Native.Nat.{ℕ, zero, suc, ◌+◌, ◌-◌, ◌*◌, ◌≤◌, ◌<◌, min}
 use native.Mathlib.Nat.{suc-mul, zero-mul, add-mul, add_comm, zero-add, mul-le-mul_right}
 use native.Mathlib.Numerals.{add-one}
@@ -16,32 +17,13 @@ use lib.ListN.{length, get_or, take, drop, set, length-drop, length-map, drop_of
 use lib.Seq.{drop-drop, get_or-take, get_or-drop, take-take, take-add, take_at, drop_at, take-suc-set, drop-cons, length-take-le}
 use lib.Dec.{eqb, ltb}
 use borrow.Author.Tests.{eq-eqb, ne_eqb, lt-ltb, le-ltb, ltb-true, ltb-false}
-use Rattle.rows.specs.Rows.{rows, records, key, ids, keys, place, is_in, scan, without, inserted}
+use Rattle.std.specs.Option.{unwrap_or}
+use Rattle.std.proofs.lemmas.List.{drop-take}
+pub use Rattle.std.specs.List.{take-map, drop-map}
+use Rattle.rows.specs.Rows.{rows, records, key, ids, keys, place, is_in, scan, without, inserted, found}
 
-module _ {A B : Type 0} where
-  pub drop-map : (f : A → B) (i : ℕ) (xs : List A) → drop i (map f xs) ≡ map f (drop i xs)
-  drop-map f zero xs = refl
-  drop-map f (suc i) [] = refl
-  drop-map f (suc i) (x ∷ xs) = drop-map f i xs
-
-  pub take-map : (f : A → B) (n : ℕ) (xs : List A) → take n (map f xs) ≡ map f (take n xs)
-  take-map f zero xs = refl
-  take-map f (suc n) [] = refl
-  take-map f (suc n) (x ∷ xs) = rw (take-map f n xs)
-
-module _ {A : Type 0} where
-  pub take-drop : (m n : ℕ) (l : List A) → take n (drop m l) ≡ drop m (take (m + n) l)
-  take-drop zero n l = ap (λ (k : ℕ). take k l) (sym (zero-add n))
-  take-drop (suc m) n [] =
-      let e : suc m + n ≡ suc (m + n) = omega arith in
-      rw e (nil n)
-    where
-      nil : (n : ℕ) → ◌≡◌ {A = List A} (take n []) []
-      nil zero = refl
-      nil (suc n) = refl
-  take-drop (suc m) n (x ∷ l) =
-      let e : suc m + n ≡ suc (m + n) = omega arith in
-      rw e (take-drop m n l)
+pub take-drop : {A : Type 0} (m n : ℕ) (l : List A) → take n (drop m l) ≡ drop m (take (m + n) l)
+take-drop m n l = sym (drop-take m n l)
 
 -- ---- products
 -- row i lies within n rows
@@ -182,9 +164,9 @@ module _ (w n : ℕ) (area : List ℕ) where
       ∙ ap (λ (t : List ℕ). get_or area (1 + i * w) 0 ∷ t) (ids-from (i + 1))
 
 -- ---- a search
-pub found : (k x : ℕ) (xs : List ℕ) → x ≡ k → place k (x ∷ xs) ≡ 0
+pub first : (k x : ℕ) (xs : List ℕ) → x ≡ k → place k (x ∷ xs) ≡ 0
 unfolding place
-found k x xs e = rw (eq-eqb x k e)
+first k x xs e = rw (eq-eqb x k e)
 
 pub passed : (k x : ℕ) (xs : List ℕ) → (x ≡ k → ⊥) → place k (x ∷ xs) ≡ suc (place k xs)
 unfolding place
@@ -195,24 +177,47 @@ unfolding place
 nowhere k [] e = refl
 nowhere k (x ∷ xs) e = absurd (omega arith)
 
--- the turns of the search: `t` is where it ends
-module _ (w n : ℕ) (area : List ℕ) (k i t : ℕ) (so_far : i + place k (drop i (keys w n area)) ≡ t) where
-  pub find-here : 0 < w → i < n → get_or area (1 + i * w) 0 ≡ k → i ≡ t
-  find-here h₀ h e =
-      let z : place k (drop i (keys w n area)) ≡ 0 = ap (place k) (keys-split w n area i h h₀) ∙ found k _ _ e in
-      omega arith
+pub place_le : (k : ℕ) (xs : List ℕ) → place k xs ≤ length xs
+unfolding place
+place_le k [] = omega arith
+place_le k (x ∷ xs) = go (eqb x k) (place_le k xs)
+  where
+    go : (b : Bool) → place k xs ≤ length xs → cond b 0 (suc (place k xs)) ≤ suc (length xs)
+    go true h = omega arith
+    go false h = omega arith
 
-  pub find_on : 0 < w → i < n → (get_or area (1 + i * w) 0 ≡ k → ⊥) → i + 1 + place k (drop (i + 1) (keys w n area)) ≡ t
+-- found, or the length
+pub found_or : (k : ℕ) (xs : List ℕ) (n : ℕ) → n ≡ length xs → unwrap_or (found k xs) n ≡ place k xs
+unfolding found is_in
+found_or k xs n e = go (ltb (place k xs) (length xs)) refl
+  where
+    go : (b : Bool) → ltb (place k xs) (length xs) ≡ b → unwrap_or (cond b (Some (place k xs)) None) n ≡ place k xs
+    go true t = refl
+    go false t = omega (arith, place_le k xs, ltb-false (place k xs) (length xs) t)
+
+-- the turns of the search
+module _ (w n : ℕ) (area : List ℕ) (k i : ℕ) (so_far : i + place k (drop i (keys w n area)) ≡ place k (keys w n area)) where
+  pub found_here : 0 < w → i < n → get_or area (1 + i * w) 0 ≡ k → Some i ≡ found k (keys w n area)
+  unfolding found is_in
+  found_here h₀ h e =
+      let z : place k (drop i (keys w n area)) ≡ 0 = ap (place k) (keys-split w n area i h h₀) ∙ first k _ _ e in
+      let l : length (keys w n area) ≡ n = length-keys w n area in
+      let q : place k (keys w n area) ≡ i = omega arith in
+      rw (q, l, lt-ltb i n h)
+
+  pub find_on : 0 < w → i < n → (get_or area (1 + i * w) 0 ≡ k → ⊥) → i + 1 + place k (drop (i + 1) (keys w n area)) ≡ place k (keys w n area)
   find_on h₀ h e =
       let z : place k (drop i (keys w n area)) ≡ suc (place k (drop (i + 1) (keys w n area))) =
       ap (place k) (keys-split w n area i h h₀) ∙ passed k _ _ e in
       omega arith
 
-  pub find-end : n ≤ i → i ≡ t
-  find-end h =
-      let l : length (drop i (keys w n area)) ≡ 0 = rw (length-drop, length-keys w n area) (omega arith) in
-      let z : place k (drop i (keys w n area)) ≡ 0 = nowhere k _ l in
-      omega arith
+  pub found_none : n ≤ i → None ≡ found k (keys w n area)
+  unfolding found is_in
+  found_none h =
+      let l : length (keys w n area) ≡ n = length-keys w n area in
+      let d : length (drop i (keys w n area)) ≡ 0 = rw (length-drop, l) (omega arith) in
+      let z : place k (drop i (keys w n area)) ≡ 0 = nowhere k _ d in
+      rw (l, le-ltb (place k (keys w n area)) n (omega arith))
 
 -- ---- a search without an exit: r says whether k stands before place i of L
 ltb-suc : (p n : ℕ) → ltb (suc p) (suc n) ≡ ltb p n
@@ -230,11 +235,9 @@ in-more k x xs = go (eqb x k) refl
     go true e = rw e (lt-ltb 0 (suc (length xs)) (omega arith))
     go false e = rw e (ltb-suc (place k xs) (length xs))
 
-or-across : (a b c : Bool) → a || (b || c) ≡ (b || a) || c
-or-across true true c = refl
-or-across true false c = refl
-or-across false true c = refl
-or-across false false c = refl
+or_assoc : (a b c : Bool) → a || (b || c) ≡ (a || b) || c
+or_assoc true b c = refl
+or_assoc false b c = refl
 
 or-none : (a : Bool) → a || false ≡ a
 or-none true = refl
@@ -243,23 +246,15 @@ or-none false = refl
 pub words-split : (L : List ℕ) (i : ℕ) → i < length L → drop i L ≡ get_or L i 0 ∷ drop (i + 1) L
 words-split L i h = rw add-one (drop-cons L i 0 h)
 
--- row i of an area of n rows lies in it, where n is the count c
-pub in_area : (w i n c l : ℕ) → 0 < w → i < n → n ≡ c → 1 + c * w ≤ l → 1 + i * w < l
-in_area w i n c l h₀ h e m = omega (arith, row_in w i n h, ap (λ (t : ℕ). t * w) e)
-
 module _ (k : ℕ) (L : List ℕ) (i : ℕ) (r : Bool) (so_far : is_in k L ≡ r || is_in k (drop i L)) where
-  pub seek-on : (x : ℕ) → drop i L ≡ x ∷ drop (i + 1) L → is_in k L ≡ (eqb x k || r) || is_in k (drop (i + 1) L)
+  pub seek-on : (x : ℕ) → drop i L ≡ x ∷ drop (i + 1) L → is_in k L ≡ (r || eqb x k) || is_in k (drop (i + 1) L)
   seek-on x split =
       so_far ∙ ap (λ (t : List ℕ). r || is_in k t) split ∙ ap (λ (b : Bool). r || b) (in-more k x (drop (i + 1) L))
-      ∙ or-across r (eqb x k) (is_in k (drop (i + 1) L))
+      ∙ or_assoc r (eqb x k) (is_in k (drop (i + 1) L))
 
   pub seek-end : length L ≤ i → r ≡ is_in k L
   unfolding is_in place
   seek-end h = sym (so_far ∙ ap (λ (t : List ℕ). r || is_in k t) (drop_of_length-le L h) ∙ or-none r)
-
-pub is_held : (w n : ℕ) (area : List ℕ) (k : ℕ) (r : Bool) → n ≡ get_or area 0 0 → r ≡ is_in k (keys w n area)
-    → r ≡ is_in k (keys w (get_or area 0 0) area)
-is_held w n area k r e f = f ∙ ap (λ (m : ℕ). is_in k (keys w m area)) e
 
 -- ---- the keys of n rows written side by side: the first i stand already
 module _ (w n : ℕ) (area words : List ℕ) (i : ℕ) (so_far : take i words ++ drop i (keys w n area) ≡ keys w n area) where
@@ -296,9 +291,4 @@ pub done : {A : Type 0} (t : A → List A → Bool) (L : List A) (i : ℕ) → l
 unfolding scan
 done t L i h e = sym (e ∙ ap (scan t) (drop_of_length-le L h))
 
--- the room that a row put in at i needs: n is the count, c the count and l the length of the area
-pub room_in : (c n i w l : ℕ) → n ≡ c → i ≤ c → 1 + (c + 1) * w ≤ l → (1 + i * w + w + (n - i) * w ≤ l) × ((n - i) * w ≤ l)
-room_in c n i w l en hi h =
-    let e : n - i + i ≡ n = omega arith in
-    let s : (n - i) * w + i * w ≡ c * w = sym (add-mul (n - i) i w) ∙ ap (λ (t : ℕ). t * w) (e ∙ en) in
-    omega (arith, one_more c w)
+pub ruleset searches = (found_here, find_on, found_none, seek-on, seek-end, gather-on, gather-end, words-split, keys-split, length-keys)

@@ -1,6 +1,6 @@
 -- 01, 'Desk and page text': lists of records in words. An area is a count and then its rows, of w words each; a row's first word is its key. One width w
 -- serves every kind of record, and a whole block too.
-use Rattle.std.specs.Prelude.{List, [], ◌∷◌, ◌++◌, map, Bool, true, cond, ◌&&◌, ℕ, zero, suc, ◌+◌, ◌-◌, ◌*◌, length, get_or, take, drop, set, eqb, ltb}
+use Rattle.std.specs.Prelude.{List, [], ◌∷◌, ◌++◌, map, Bool, true, cond, ◌&&◌, Option, Some, None, ℕ, zero, suc, ◌+◌, ◌-◌, ◌*◌, length, get_or, take, drop, set, eqb, ltb}
 use Rattle.std.proofs.Math.Seq.{paste}
 
 -- ---- words
@@ -77,3 +77,7 @@ place k (x ∷ xs) = cond (eqb x k) 0 (suc (place k xs))
 
 unfoldable pub is_in : ℕ → List ℕ → Bool
 is_in k xs = ltb (place k xs) (length xs)
+
+-- where k is, if it is there
+unfoldable pub found : ℕ → List ℕ → Option ℕ
+found k xs = cond (is_in k xs) (Some (place k xs)) None

@@ -2,24 +2,15 @@
 use mathlib.Core.Path.{◌≡◌, sym, ◌∙◌}
 use mathlib.Core.Bool.{Bool, true, false, cond}
 use mathlib.Core.List.{List}
-use Prim.Native.Nat.{ℕ, zero, suc, ◌+◌, ◌-◌, ◌%◌, ◌<◌, ◌≤◌}
+use Prim.Native.Nat.{ℕ, zero, suc, ◌+◌, ◌-◌, ◌<◌, ◌≤◌}
 use native.Mathlib.Omega.{arith}
 use borrow.Author.Tests.{eq-eqb, ne_eqb}
 use lib.Dec.{eqb, ltb}
 use lib.IntN.{ℤ}
 use Rattle.nodes.specs.Graph.{none, Graph, onward, find, place, link}
 use Rattle.nodes.specs.Columns.{whole, graph}
-use Rattle.nodes.specs.Lent.{Met}
 use Rattle.nodes.proofs.Nodes.{cond_ind, place-grows, onward-first}
-use Rattle.scan.specs.Walk.{Way, room, find_on, place_on, next, step, walk}
-
-pub room-ahead : (d i n : ℕ) → d % 2 ≡ 1 → room d i n ≡ n - (i + 1)
-unfolding room
-room-ahead d i n e = rw (eq-eqb _ _ e)
-
-pub room-behind : (d i n : ℕ) → (d % 2 ≡ 1 → ⊥) → room d i n ≡ i
-unfolding room
-room-behind d i n e = rw (ne_eqb _ _ e)
+use Rattle.scan.specs.Walk.{Way, find_on, place_on, next, step, walk}
 
 pub place_on-grows : (g : Graph) (d a c : ℕ) → (g.count ≤ (place_on g d a c).count) × (find_on g d a c < (place_on g d a c).count)
 unfolding place_on find_on
@@ -73,17 +64,17 @@ module _ {w : Way} {g₀ : Graph} {start m : ℕ} {g : Graph} {prev k : ℕ} (i 
   pub walk-crowded : k < m → 4096 < (step w g prev k).count → 4096 < (walk w g₀ start 0 m).count
   walk-crowded h l = rw (← i.rest) (omega (arith, walk-full w g prev k (m - k) (omega arith)))
 
-  module _ (n : ℕ) (l : List ℤ) (j : ℕ) (h : k < m) (p : Met j n (next w g k) (graph n l) (step w g prev k)) (few : n ≤ 4096) (dir : w.dir < 4) where
+  module _ (n : ℕ) (l : List ℤ) (j : ℕ) (h : k < m) (is : j ≡ next w g k) (within : j < n) (few : n ≤ 4096) (same : graph n l ≡ step w g prev k) (dir : w.dir < 4) where
     seen : onward (step w g prev k) w.dir (next w g k) ≡ onward (whole l) w.dir j
-    seen = rw (← p.built.same few, ← p.is) (onward-first n (whole l) w.dir j p.within dir)
+    seen = rw (← same, ← is) (onward-first n (whole l) w.dir j within dir)
 
     pub walk-stopped : (onward (whole l) w.dir j ≡ none → ⊥) → graph n l ≡ walk w g₀ start 0 m
-    walk-stopped e = p.built.same few ∙ sym (walk-last w g prev k (m - k) (omega arith) (λ q. e (sym seen ∙ q))) ∙ i.rest
+    walk-stopped e = same ∙ sym (walk-last w g prev k (m - k) (omega arith) (λ q. e (sym seen ∙ q))) ∙ i.rest
 
     pub walk-on : onward (whole l) w.dir j ≡ none → Walking w g₀ start m (graph n l) j (k + 1)
     walk-on e =
         let q : m - (k + 1) ≡ m - k - 1 = omega arith in
-        record { reached = omega arith; few = few; inside = p.within; rest = rw (q, p.built.same few, p.is) (sym (walk_more w g prev k (m - k) (omega arith) (seen ∙ e)) ∙ i.rest) }
+        record { reached = omega arith; few = few; inside = within; rest = rw (q, same, is) (sym (walk_more w g prev k (m - k) (omega arith) (seen ∙ e)) ∙ i.rest) }
 
 pub walk-begin : (w : Way) (g : Graph) (start m : ℕ) → g.count ≤ 4096 → start < g.count → Walking w g start m g start 0
 walk-begin w g start m h l = let e : m - 0 ≡ m = omega arith in record { reached = omega arith; few = h; inside = l; rest = rw e }

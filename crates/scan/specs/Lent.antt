@@ -1,41 +1,62 @@
--- What the functions are lent: the padded boxes, the axis lists and the anchors, as lists of columns.
-use Rattle.std.specs.Prelude.{cond, List, ℕ, zero, suc, ◌≤◌, ◌*◌, ltb, ℤ, length}
-use Rattle.fixed.specs.Constants.{BOXES, COORDS, PADDED_WORDS}
-use Rattle.fixed.specs.Up.{ups}
-use Rattle.fixed.specs.Columns.{column}
+-- What the functions are lent, and what they answer.
+use Rattle.std.specs.Prelude.{◌≡◌, List, ℕ, ◌<◌, ◌≤◌, ℤ, length, Option, MatchOption}
+use Rattle.fixed.specs.declared.Anchor.{Anchor as Lent}
+use Rattle.fixed.specs.declared.PaddedBox.{PaddedBox}
+use Rattle.fixed.specs.Boxes.{min_xs, min_ys, max_xs, max_ys, anchor_xs, anchor_ys, directions_of, ignored_of}
 use Rattle.sightline.specs.Sight.{Rising}
-use Rattle.sightline.specs.declared.Direction.{Direction}
-use Rattle.sightline.specs.declared.Direction.TheVariants.{PosX, NegX, PosY, NegY}
+use Rattle.sightline.specs.Beyond.{index}
+use Rattle.nodes.specs.declared.Spot.{Spot}
+use Rattle.nodes.specs.Graph.{Graph, NODES}
+use Rattle.nodes.specs.Columns.{graph}
+use Rattle.nodes.specs.Map.{Keyed}
+use Rattle.scan.specs.declared.Page.{Page as LentPage}
+use Rattle.scan.specs.declared.Way.{Way as LentWay}
 use Rattle.scan.specs.Walk.{Way}
-use Rattle.scan.specs.Scan.{Page, Anchors}
+use Rattle.scan.specs.Scan.{Page, Anchor, Anchors}
 
--- the direction of an index
-abbrev pub direction : ℕ → Direction
-direction zero = NegX
-direction (suc zero) = PosX
-direction (suc (suc zero)) = NegY
-direction (suc (suc (suc d))) = PosY
+-- the boxes and the axis lists
+abbrev pub page : List PaddedBox → List ℕ → List ℕ → Page
+page boxes ax ay =
+    record { min_x = min_xs boxes; min_y = min_ys boxes; max_x = max_xs boxes; max_y = max_ys boxes; boxes = length boxes; axis_x = ax; axis_y = ay }
 
--- the axis list that a direction follows
-abbrev pub follow : ℕ → List ℤ → List ℤ → List ℤ
-follow d ax ay = cond (ltb d 2) ax ay
+abbrev pub page_in : LentPage → Page
+page_in p = page p.boxes.now p.ax.now p.ay.now
 
--- a way over a lent axis list
-abbrev pub way : ℕ → ℕ → List ℤ → ℕ → Way
-way d across axis from = record { dir = d; across = across; axis = ups axis; from = from }
+abbrev pub way_in : LentWay → Way
+way_in w = record { dir = index w.dir; across = w.across; axis = w.axis.now; from = w.from }
 
--- the boxes: four columns of 64, least x, least y, greatest x, greatest y
-abbrev pub page : List ℤ → ℕ → List ℤ → List ℤ → Page
-page boxes n ax ay =
-    record { min_x = column 0 n boxes; min_y = column BOXES n boxes; max_x = column (BOXES * 2) n boxes; max_y = column (BOXES * 3) n boxes; boxes = n; axis_x = ups ax; axis_y = ups ay }
+-- an anchor, and a list of anchors of which the first `explicit` are the explicit ones
+abbrev pub anchor_in : Lent → Anchor
+anchor_in a = record { x = a.x; y = a.y; dirs = a.directions; box = a.ignored }
 
--- the anchors: four columns of 2,560, x, y, directions, the box that it ignores
-abbrev pub anchors : List ℤ → ℕ → ℕ → Anchors
-anchors l explicit n = record { xs = column 0 n l; ys = column COORDS n l; dirs = column (COORDS * 2) n l; boxes = column (COORDS * 3) n l; explicit = explicit; count = n }
+abbrev pub anchors : List Lent → ℕ → Anchors
+anchors s explicit =
+    record { xs = anchor_xs s; ys = anchor_ys s; dirs = directions_of s; boxes = ignored_of s; explicit = explicit; count = length s }
 
--- the list has the n boxes, and the axis lists rise
-pub record Paged (boxes : List ℤ) (n : ℕ) (ax ay : List ℤ) : Type 0 where
-  pub few : n ≤ BOXES
-  pub held : PADDED_WORDS ≤ length boxes
-  pub x_rising : Rising (ups ax)
-  pub y_rising : Rising (ups ay)
+-- the axis lists rise
+pub record Paged (p : Page) : Type 0 where
+  pub x_rising : Rising p.axis_x
+  pub y_rising : Rising p.axis_y
+
+-- the graph g is in the list, as its first n nodes
+pub record Held (g : Graph) (nodes : List ℤ) (n : ℕ) : Type 0 where
+  pub few : n ≤ NODES
+  pub same : graph n nodes ≡ g
+
+-- and its places are in the map
+pub record Mapped (g : Graph) (nodes : List ℤ) (map : List ℕ) (n : ℕ) : Type 0 where
+  pub held : Held g nodes n
+  pub keyed : Keyed map nodes n
+
+-- what a step that may find no room answers: nothing if the graph that it is to make has more than 4,096 nodes, else that graph's count
+abbrev pub Built : Option ℕ → Graph → List ℤ → List ℕ → Type 0
+Built r g nodes map = MatchOption r (NODES < g.count) (Mapped g nodes map)
+
+-- the same of a node met or made: its index, which is i, too
+pub record Spotted (i : ℕ) (g : Graph) (nodes : List ℤ) (map : List ℕ) (s : Spot) : Type 0 where
+  pub is : s.index ≡ i
+  pub within : s.index < s.count
+  pub mapped : Mapped g nodes map s.count
+
+abbrev pub Met : Option Spot → ℕ → Graph → List ℤ → List ℕ → Type 0
+Met r i g nodes map = MatchOption r (NODES < g.count) (Spotted i g nodes map)

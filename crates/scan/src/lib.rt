@@ -1,20 +1,19 @@
 // Scans over the axis lists, and the graph that they build.
 #![tactic(auto)]
 
-ghost use Rattle.std.specs.Prelude.{◌≡◌, ◌+◌, ◌*◌, ◌<◌, ◌≤◌, length};
-ghost use Rattle.fixed.specs.Constants.{BOXES, COORDS, PADDED_WORDS, ANCHOR_WORDS};
-ghost use Rattle.fixed.specs.Up.{ups};
+ghost use Rattle.std.specs.Prelude.{◌≡◌, ◌<◌, ◌≤◌, cond, ltb, length, MatchOption};
 ghost use Rattle.sightline.specs.Sight.{Rising};
-ghost use Rattle.fixed.specs.Columns.{column};
+ghost use Rattle.sightline.specs.Beyond.{index, axis_of};
 ghost use Rattle.sightline.specs.Lent.{line};
-ghost use Rattle.nodes.specs.Graph.{NODES};
-ghost use Rattle.nodes.specs.Columns.{GRAPH_WORDS, graph_in, graph_out};
-ghost use Rattle.nodes.specs.Lent.{Built, Met};
+ghost use Rattle.nodes.specs.Graph.{NODES, find, place};
+ghost use Rattle.nodes.specs.Columns.{GRAPH_WORDS, graph};
 ghost use Rattle.nodes.specs.Map.{Keyed};
-ghost use Rattle.scan.specs.Walk.{along, room, find_on, place_on, next, step, walk, reach};
-ghost use Rattle.scan.specs.Scan.{has, extent, toward, scans, scan_anchor, scan_at, mark, build_nodes, build};
-ghost use Rattle.scan.specs.Lent.{direction, follow, way, page, Paged, anchors as anchors_of};
+ghost use Rattle.scan.specs.Walk.{along, room, next, step, walk, reach};
+ghost use Rattle.scan.specs.Scan.{has, toward, scans, scan_anchor, build_nodes, build};
+ghost use Rattle.scan.specs.Lent.{Held, Built, Met, way_in, page_in, anchor_in, Paged, anchors as anchors_of};
 
+use fixed::{Anchor, Axis, PaddedBox};
+use nodes::Spot;
 use sightline::Direction;
 
 // All four directions, and the mark of an explicit node.
@@ -22,423 +21,266 @@ const ALL: u32 = 15;
 
 const EXPLICIT: u32 = 16;
 
-// The direction of an index.
-fn direction(d: usize) -> Direction
-    ensures { result ≡ direction d }
-{
-    if d == 0 {
-        return Direction::NegX;
-    }
-    if d == 1 {
-        return Direction::PosX;
-    }
-    if d == 2 {
-        return Direction::NegY;
-    }
-    Direction::PosY
+// The boxes of a page and its axis lists.
+#[derive(Clone, Copy)]
+pub struct Page<'a> {
+    pub boxes: &'a [PaddedBox],
+    pub ax: &'a [u32],
+    pub ay: &'a [u32],
 }
 
-// The coordinate of the step k from the index i.
-fn along(axis: &[i32], d: usize, i: usize, k: usize) -> u32
-    requires { (i < length axis.now) × (k < room d i (length axis.now)) }
-    ensures { result ≡ along (ups axis.now) d i k }
-{
-    if d % 2 == 1 {
-        return fixed::at(axis, i + (k + 1));
-    }
-    fixed::at(axis, i - (k + 1))
-}
-
-// The node at the coordinate c along d, and at `across` on the other axis.
-fn place_on(
-    nodes: &mut [i32],
-    map: &mut [u32],
-    n: usize,
-    d: usize,
+// The way of a scan: its direction, the coordinate across it, the axis list that it follows, and the anchor's index on that list.
+#[derive(Clone, Copy)]
+struct Way<'a> {
+    dir: Direction,
     across: u32,
-    c: u32,
-) -> nodes::Spot
+    axis: &'a [u32],
+    from: usize,
+}
+
+// The coordinate of the step k.
+#[tactic(auto, using(crate::proofs::Reaches::ways))]
+fn along(way: Way, k: usize) -> u32
+    requires { (way.from < length way.axis.now) × (k < room (index way.dir) way.from (length way.axis.now)) }
+    ensures { result ≡ along way.entry.axis.now (index way.entry.dir) way.entry.from k }
+{
+    if way.dir.is_ahead() {
+        way.axis[way.from + (k + 1)]
+    } else {
+        way.axis[way.from - (k + 1)]
+    }
+}
+
+// The place at the coordinate c.
+#[tactic(auto, using(crate::proofs::Reaches::sides))]
+fn place_at(way: Way, c: u32) -> (u32, u32)
+    ensures x { result.0 ≡ cond (ltb (index way.entry.dir) 2) c way.entry.across }
+    ensures y { result.1 ≡ cond (ltb (index way.entry.dir) 2) way.entry.across c }
+{
+    match way.dir.axis() {
+        Axis::X => (c, way.across),
+        Axis::Y => (way.across, c),
+    }
+}
+
+// How many coordinates next to the anchor are clear.
+fn reach(way: Way, boxes: &[PaddedBox], anchor: u32, ignore: usize) -> usize
+    requires rising { Rising way.axis.now }
+    requires from_in { way.from < length way.axis.now }
+    ensures { result ≡ reach (line boxes.now (axis_of way.entry.dir) way.entry.across ignore) anchor (index way.entry.dir) way.entry.axis.now way.entry.from }
+{
+    let part = sightline::beyond(way.axis, way.dir, way.from);
+    let ahead = way.dir.is_ahead();
+    let cut = sightline::cutoff(
+        boxes,
+        way.dir.axis(),
+        way.across,
+        anchor,
+        part,
+        0,
+        ignore,
+        ahead,
+    );
+    if ahead { cut } else { way.from - cut }
+}
+
+// The node at (x, y), met or made, with the mark m: nothing where there is no room for another.
+fn place(nodes: &mut [i32], map: &mut [u32], n: usize, x: u32, y: u32, m: u32) -> Option<Spot>
     requires in_bounds { GRAPH_WORDS ≤ length nodes.old }
     requires n_bound { n ≤ NODES }
     requires keyed { Keyed map.old nodes.old n }
-    ensures met { Met result.index result.count (find_on (graph_in n nodes.old) d across c) (graph_out result.count nodes.new) (place_on (graph_in n nodes.old) d across c) }
-    ensures keyed_2 { Keyed map.new nodes.new result.count }
+    ensures { Met result (find (graph n nodes.old) x y) (place (graph n nodes.old) x y m) nodes.new map.new }
 {
-    if d < 2 {
-        return nodes::place(nodes, map, n, c, across, ALL);
+    let spot = nodes::place(nodes, map, n, x, y, m);
+    if spot.count <= nodes::NODES {
+        Some(spot)
+    } else {
+        None
     }
-    nodes::place(nodes, map, n, across, c, ALL)
 }
 
 // The step k of a scan: the node there is met or made, and linked with the one before.
 fn step(
-    axis: &[i32],
+    way: Way,
     nodes: &mut [i32],
     map: &mut [u32],
     n: usize,
-    d: usize,
-    from: usize,
-    across: u32,
     prev: usize,
     k: usize,
-) -> nodes::Spot
+) -> Option<Spot>
     requires in_bounds { GRAPH_WORDS ≤ length nodes.old }
-    requires n_bound { (n ≤ NODES) × (prev < n) × (d < 4) }
-    requires from_in_bounds { (from < length axis.now) × (k < room d from (length axis.now)) }
+    requires n_bound { (n ≤ NODES) × (prev < n) }
+    requires from_in { (way.from < length way.axis.now) × (k < room (index way.dir) way.from (length way.axis.now)) }
     requires keyed { Keyed map.old nodes.old n }
-    ensures met { Met result.index result.count (next (way d across axis.now from) (graph_in n nodes.old) k) (graph_out result.count nodes.new) (step (way d across axis.now from) (graph_in n nodes.old) prev k) }
-    ensures keyed_2 { Keyed map.new nodes.new result.count }
+    ensures { Met result (next (way_in way.entry) (graph n nodes.old) k) (step (way_in way.entry) (graph n nodes.old) prev k) nodes.new map.new }
 {
-    let c = along(axis, d, from, k);
-    let s = place_on(nodes, map, n, d, across, c);
-    let j = s.index;
-    let count = s.count;
-    if nodes::NODES < count {
-        return nodes::Spot {
-            index: j,
-            count: count,
-        };
-    }
-    nodes::link(nodes, d, prev, j);
-    nodes::Spot {
-        index: j,
-        count: count,
-    }
+    let (x, y) = place_at(way, along(way, k));
+    let spot = place(nodes, map, n, x, y, ALL)?;
+    nodes::link(nodes, way.dir.index(), prev, spot.index);
+    Some(spot)
 }
 
 // At most m steps; it ends at a node that has a link onward.
 fn walk(
-    axis: &[i32],
+    way: Way,
     nodes: &mut [i32],
     map: &mut [u32],
     n: usize,
-    d: usize,
-    from: usize,
-    across: u32,
     start: usize,
     m: usize,
-) -> usize
+) -> Option<usize>
     requires in_bounds { GRAPH_WORDS ≤ length nodes.old }
-    requires n_bound { (n ≤ NODES) × (start < n) × (d < 4) }
-    requires from_in_bounds { (from < length axis.now) × (m ≤ room d from (length axis.now)) }
+    requires n_bound { (n ≤ NODES) × (start < n) }
+    requires from_in { (way.from < length way.axis.now) × (m ≤ room (index way.dir) way.from (length way.axis.now)) }
     requires keyed { Keyed map.old nodes.old n }
-    ensures built { Built result (graph_out result nodes.new) (walk (way d across axis.now from) (graph_in n nodes.old) start 0 m) }
-    ensures keyed_2 { Keyed map.new nodes.new result }
+    ensures { Built result (walk (way_in way.entry) (graph n nodes.old) start 0 m) nodes.new map.new }
 {
     let mut count = n;
     let mut prev = start;
-    let mut k = 0;
-    while k < m {
-        let s = step(axis, nodes, map, count, d, from, across, prev, k);
-        count = s.count;
-        prev = s.index;
-        if nodes::NODES < count {
-            return count;
+    for k in 0..m {
+        let spot = step(way, nodes, map, count, prev, k)?;
+        count = spot.count;
+        prev = spot.index;
+        if nodes::link_of(nodes, prev, way.dir.index()) != nodes::NOWHERE {
+            return Some(count);
         }
-        if nodes::link_of(nodes, prev, d) != nodes::NOWHERE {
-            return count;
-        }
-        k += 1;
     }
-    count
-}
-
-// How many coordinates next to the anchor, at the index i of the list that the direction d follows, are clear.
-fn reach<'a>(
-    boxes: &[i32],
-    b: usize,
-    s: usize,
-    across: u32,
-    anchor: u32,
-    ax: &'a [i32],
-    ay: &'a [i32],
-    d: usize,
-    i: usize,
-    ignore: usize,
-) -> usize
-    requires s_bound { (s < 2) × (b ≤ BOXES) × (PADDED_WORDS ≤ length boxes.now) }
-    requires rising { Rising (ups (follow d ax.now ay.now)) }
-    requires d_bound { (d < 4) × (i < length (follow d ax.now ay.now)) }
-    ensures { result ≡ reach (line boxes.now b s across ignore) anchor d (ups (follow d ax.now ay.now)) i }
-{
-    let part = sightline::beyond(ax, ay, direction(d), i);
-    if d % 2 == 1 {
-        return sightline::cutoff(boxes, b, s, across, anchor, part, 0, ignore, true);
-    }
-    i - sightline::cutoff(boxes, b, s, across, anchor, part, 0, ignore, false)
+    Some(count)
 }
 
 // Whether the direction d is among dirs.
-fn has(dirs: u32, d: usize) -> bool
-    ensures { result ≡ has dirs d }
+#[tactic(auto, using(crate::proofs::Reaches::bits))]
+fn has(dirs: u32, d: Direction) -> bool
+    ensures { result ≡ has dirs (index d) }
 {
-    if d == 0 {
-        return dirs % 2 == 1;
-    }
-    if d == 1 {
-        return dirs / 2 % 2 == 1;
-    }
-    if d == 2 {
-        return dirs / 4 % 2 == 1;
-    }
-    dirs / 8 % 2 == 1
+    dirs & d.bit() != 0
 }
 
-// How far the scan of an anchor goes in the direction d: nowhere if that is not among its directions.
-fn extent<'a>(
-    boxes: &[i32],
-    b: usize,
-    ax: &'a [i32],
-    ay: &'a [i32],
-    x: u32,
-    y: u32,
-    dirs: u32,
-    ignore: usize,
-    i: usize,
-    j: usize,
-    d: usize,
-) -> usize
-    requires paged { Paged boxes.now b ax.now ay.now }
-    requires d_bound { (d < 4) × (i < length ax.now) × (j < length ay.now) }
-    ensures { result ≡ extent (page boxes.now b ax.now ay.now) (record { x = x; y = y; dirs = dirs; box = ignore }) i j d }
-{
-    if has(dirs, d) {
-        if d < 2 {
-            return reach(boxes, b, 1, y, x, ax, ay, d, i, ignore);
-        }
-        return reach(boxes, b, 0, x, y, ax, ay, d, j, ignore);
-    }
-    0
-}
-
-// The scan of an anchor in the direction d, if that is among its directions.
-fn toward<'a>(
-    boxes: &[i32],
-    b: usize,
-    ax: &'a [i32],
-    ay: &'a [i32],
+// The scan of an anchor in the direction d, if that is among its directions. Its node is `node`, and its indices on the axis lists are i and j.
+fn toward(
+    page: Page,
     nodes: &mut [i32],
     map: &mut [u32],
     n: usize,
-    x: u32,
-    y: u32,
-    dirs: u32,
-    ignore: usize,
+    anchor: Anchor,
     node: usize,
     i: usize,
     j: usize,
-    d: usize,
-) -> usize
-    requires paged { Paged boxes.now b ax.now ay.now }
+    dir: Direction,
+) -> Option<usize>
+    requires paged { Paged (page_in page) }
     requires in_bounds { GRAPH_WORDS ≤ length nodes.old }
-    requires n_bound { (n ≤ NODES) × (node < n) × (d < 4) × (i < length ax.now) × (j < length ay.now) }
+    requires n_bound { (n ≤ NODES) × (node < n) × (i < length page.ax.now) × (j < length page.ay.now) }
     requires keyed { Keyed map.old nodes.old n }
-    ensures built { Built result (graph_out result nodes.new) (toward (page boxes.now b ax.now ay.now) (record { x = x; y = y; dirs = dirs; box = ignore }) node i j d (graph_in n nodes.old)) }
-    ensures keyed_2 { Keyed map.new nodes.new result }
+    ensures { Built result (toward (page_in page.entry) (anchor_in anchor) node i j (index dir) (graph n nodes.old)) nodes.new map.new }
 {
-    let m = extent(boxes, b, ax, ay, x, y, dirs, ignore, i, j, d);
-    if d < 2 {
-        return walk(ax, nodes, map, n, d, i, y, node, m);
+    if !has(anchor.directions, dir) {
+        return Some(n);
     }
-    walk(ay, nodes, map, n, d, j, x, node, m)
+    let (way, at) = match dir.axis() {
+        Axis::X => (
+            Way {
+                dir,
+                across: anchor.y,
+                axis: page.ax,
+                from: i,
+            },
+            anchor.x,
+        ),
+        Axis::Y => (
+            Way {
+                dir,
+                across: anchor.x,
+                axis: page.ay,
+                from: j,
+            },
+            anchor.y,
+        ),
+    };
+    let m = reach(way, page.boxes, at, anchor.ignored as usize);
+    walk(way, nodes, map, n, node, m)
 }
 
 // The scans of an anchor in its directions.
-fn scans<'a>(
-    boxes: &[i32],
-    b: usize,
-    ax: &'a [i32],
-    ay: &'a [i32],
+fn scans(
+    page: Page,
     nodes: &mut [i32],
     map: &mut [u32],
     n: usize,
-    x: u32,
-    y: u32,
-    dirs: u32,
-    ignore: usize,
+    anchor: Anchor,
     node: usize,
     i: usize,
     j: usize,
-) -> usize
-    requires paged { Paged boxes.now b ax.now ay.now }
+) -> Option<usize>
+    requires paged { Paged (page_in page) }
     requires in_bounds { GRAPH_WORDS ≤ length nodes.old }
-    requires n_bound { (n ≤ NODES) × (node < n) × (i < length ax.now) × (j < length ay.now) }
+    requires n_bound { (n ≤ NODES) × (node < n) × (i < length page.ax.now) × (j < length page.ay.now) }
     requires keyed { Keyed map.old nodes.old n }
-    ensures built { Built result (graph_out result nodes.new) (scans (page boxes.now b ax.now ay.now) (record { x = x; y = y; dirs = dirs; box = ignore }) node i j (graph_in n nodes.old)) }
-    ensures keyed_2 { Keyed map.new nodes.new result }
+    ensures { Built result (scans (page_in page.entry) (anchor_in anchor) node i j (graph n nodes.old)) nodes.new map.new }
 {
     let mut count = n;
-    let mut d = 0;
-    while d < 4 {
-        count = toward(
-            boxes, b, ax, ay, nodes, map, count, x, y, dirs, ignore, node, i, j, d,
-        );
-        if nodes::NODES < count {
-            return count;
-        }
-        d += 1;
+    for dir in Direction::ALL {
+        count = toward(page, nodes, map, count, anchor, node, i, j, dir)?;
     }
-    count
+    Some(count)
 }
 
 // The scans of an anchor that has a node and stands on both axis lists.
-fn scan_anchor<'a>(
-    boxes: &[i32],
-    b: usize,
-    ax: &'a [i32],
-    ay: &'a [i32],
+fn scan_anchor(
+    page: Page,
     nodes: &mut [i32],
     map: &mut [u32],
     n: usize,
-    x: u32,
-    y: u32,
-    dirs: u32,
-    ignore: usize,
-) -> usize
-    requires paged { Paged boxes.now b ax.now ay.now }
+    anchor: Anchor,
+) -> Option<usize>
+    requires paged { Paged (page_in page) }
     requires in_bounds { GRAPH_WORDS ≤ length nodes.old }
     requires n_bound { n ≤ NODES }
     requires keyed { Keyed map.old nodes.old n }
-    ensures built { Built result (graph_out result nodes.new) (scan_anchor (page boxes.now b ax.now ay.now) (record { x = x; y = y; dirs = dirs; box = ignore }) (graph_in n nodes.old)) }
-    ensures keyed_2 { Keyed map.new nodes.new result }
+    ensures { Built result (scan_anchor (page_in page.entry) (anchor_in anchor) (graph n nodes.old)) nodes.new map.new }
 {
-    let node = nodes::look_up(map, nodes, n, x, y);
-    let i = axis::index(ax, x);
-    let j = axis::index(ay, y);
-    if node < n {
-        if i < ax.len() {
-            if j < ay.len() {
-                return scans(
-                    boxes, b, ax, ay, nodes, map, n, x, y, dirs, ignore, node, i, j,
-                );
-            }
-            return n;
-        }
-        return n;
+    let node = nodes::look_up(map, nodes, n, anchor.x, anchor.y);
+    let i = axis::index(page.ax, anchor.x);
+    let j = axis::index(page.ay, anchor.y);
+    if node < n && i < page.ax.len() && j < page.ay.len() {
+        return scans(page, nodes, map, n, anchor, node, i, j);
     }
-    n
-}
-
-// The mark of the node that the anchor k makes.
-fn mark(anchors: &[i32], explicit: usize, a: usize, k: usize) -> u32
-    requires { (k < a) × (a ≤ COORDS) × (ANCHOR_WORDS ≤ length anchors.now) }
-    ensures { result ≡ mark (column (COORDS * 2) a anchors.now) explicit k }
-{
-    let dirs = fixed::word(anchors, fixed::ANCHOR_DIRS, a, k);
-    if k < explicit {
-        return dirs | EXPLICIT;
-    }
-    dirs
-}
-
-// The scans of the anchor k.
-fn scan_at<'a>(
-    boxes: &[i32],
-    b: usize,
-    ax: &'a [i32],
-    ay: &'a [i32],
-    anchors: &[i32],
-    explicit: usize,
-    a: usize,
-    nodes: &mut [i32],
-    map: &mut [u32],
-    n: usize,
-    k: usize,
-) -> usize
-    requires paged { Paged boxes.now b ax.now ay.now }
-    requires a_bound { (a ≤ COORDS) × (ANCHOR_WORDS ≤ length anchors.now) }
-    requires in_bounds { GRAPH_WORDS ≤ length nodes.old }
-    requires n_bound { (n ≤ NODES) × (k < a) }
-    requires keyed { Keyed map.old nodes.old n }
-    ensures built { Built result (graph_out result nodes.new) (scan_at (page boxes.now b ax.now ay.now) (anchors_of anchors.now explicit a) k (graph_in n nodes.old)) }
-    ensures keyed_2 { Keyed map.new nodes.new result }
-{
-    let x = fixed::word(anchors, 0, a, k);
-    let y = fixed::word(anchors, fixed::ANCHOR_Y, a, k);
-    let dirs = fixed::word(anchors, fixed::ANCHOR_DIRS, a, k);
-    let own = fixed::word(anchors, fixed::ANCHOR_BOX, a, k);
-    scan_anchor(boxes, b, ax, ay, nodes, map, n, x, y, dirs, own as usize)
+    Some(n)
 }
 
 // A node for each anchor's place.
-pub fn build_nodes(
-    anchors: &[i32],
+fn build_nodes(
+    anchors: &[Anchor],
     explicit: usize,
-    a: usize,
     nodes: &mut [i32],
     map: &mut [u32],
-) -> usize
-    requires a_bound { (a ≤ COORDS) × (ANCHOR_WORDS ≤ length anchors.now) }
+) -> Option<usize>
     requires in_bounds { GRAPH_WORDS ≤ length nodes.old }
     requires keyed { Keyed map.old nodes.old 0 }
-    ensures built { Built result (graph_out result nodes.new) (build_nodes (anchors_of anchors.now explicit a)) }
-    ensures keyed_2 { Keyed map.new nodes.new result }
+    ensures { Built result (build_nodes (anchors_of anchors.now explicit)) nodes.new map.new }
 {
     let mut count = 0;
-    let mut k = 0;
-    while k < a {
-        let x = fixed::word(anchors, 0, a, k);
-        let y = fixed::word(anchors, fixed::ANCHOR_Y, a, k);
-        let m = mark(anchors, explicit, a, k);
-        let s = nodes::place(nodes, map, count, x, y, m);
-        count = s.count;
-        if nodes::NODES < count {
-            return count;
-        }
-        k += 1;
+    for (k, anchor) in anchors.iter().enumerate() {
+        let mark = if k < explicit {
+            anchor.directions | EXPLICIT
+        } else {
+            anchor.directions
+        };
+        count = place(nodes, map, count, anchor.x, anchor.y, mark)?.count;
     }
-    count
+    Some(count)
 }
 
-// The graph, not pruned, by a map of its places, which is empty: how many nodes it has, or more than NODES where it would have more.
-fn build_by<'a>(
-    boxes: &[i32],
-    b: usize,
-    ax: &'a [i32],
-    ay: &'a [i32],
-    anchors: &[i32],
-    explicit: usize,
-    a: usize,
-    nodes: &mut [i32],
-    map: &mut [u32],
-) -> usize
-    requires paged { Paged boxes.now b ax.now ay.now }
-    requires a_bound { (a ≤ COORDS) × (ANCHOR_WORDS ≤ length anchors.now) }
+// The graph, not pruned: how many nodes it has, or nothing where it would have more than NODES. The map of its places is made here.
+pub fn build(page: Page, anchors: &[Anchor], explicit: usize, nodes: &mut [i32]) -> Option<usize>
+    requires paged { Paged (page_in page) }
     requires in_bounds { GRAPH_WORDS ≤ length nodes.old }
-    requires keyed { Keyed map.old nodes.old 0 }
-    ensures { Built result (graph_out result nodes.new) (build (page boxes.now b ax.now ay.now) (anchors_of anchors.now explicit a)) }
+    ensures { MatchOption result (NODES < (build (page_in page.entry) (anchors_of anchors.now explicit)).count) (Held (build (page_in page.entry) (anchors_of anchors.now explicit)) nodes.new) }
 {
-    let mut count = build_nodes(anchors, explicit, a, nodes, map);
-    if nodes::NODES < count {
-        return count;
+    let mut map = [0; nodes::MAP];
+    let mut count = build_nodes(anchors, explicit, nodes, &mut map)?;
+    for anchor in anchors {
+        count = scan_anchor(page, nodes, &mut map, count, *anchor)?;
     }
-    let mut k = 0;
-    while k < a {
-        count = scan_at(boxes, b, ax, ay, anchors, explicit, a, nodes, map, count, k);
-        if nodes::NODES < count {
-            return count;
-        }
-        k += 1;
-    }
-    count
-}
-
-// The graph, not pruned: how many nodes it has, or more than NODES where it would have more. The map is made here.
-pub fn build<'a>(
-    boxes: &[i32],
-    b: usize,
-    ax: &'a [i32],
-    ay: &'a [i32],
-    anchors: &[i32],
-    explicit: usize,
-    a: usize,
-    nodes: &mut [i32],
-) -> usize
-    requires paged { Paged boxes.now b ax.now ay.now }
-    requires a_bound { (a ≤ COORDS) × (ANCHOR_WORDS ≤ length anchors.now) }
-    requires in_bounds { GRAPH_WORDS ≤ length nodes.old }
-    ensures { Built result (graph_out result nodes.new) (build (page boxes.now b ax.now ay.now) (anchors_of anchors.now explicit a)) }
-{
-    let mut map: [u32; nodes::MAP] = [0; nodes::MAP];
-    build_by(boxes, b, ax, ay, anchors, explicit, a, nodes, &mut map)
+    Some(count)
 }

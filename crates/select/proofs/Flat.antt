@@ -35,9 +35,9 @@ list-now : (k : Kind) (ws : List ℕ) → list k (book_of ws).lists ≡ list_of 
 unfolding book_of
 list-now k ws = list-is k (block ws)
 
-pub count-desk : (k : Kind) (ws : List ℕ) (a r : ℕ) → a ≡ start k → r ≡ get_or ws (1 + a) 0 → r ≡ length (list k (book_of ws).lists)
-count-desk k ws a r ea er =
-    er ∙ ap (λ (t : ℕ). get_or ws (1 + t) 0) ea ∙ sym (count-now k ws) ∙ sym (length-list k (block ws)) ∙ ap length (sym (list-now k ws))
+pub count-desk : (k : Kind) (ws : List ℕ) (a : ℕ) → a ≡ 1 + start k → get_or ws a 0 ≡ length (list k (book_of ws).lists)
+count-desk k ws a e =
+    ap (λ (t : ℕ). get_or ws t 0) e ∙ sym (count-now k ws) ∙ sym (length-list k (block ws)) ∙ ap length (sym (list-now k ws))
 
 pub few-desk : (k : Kind) (ws : List ℕ) → valid (book_of ws) ≡ true → length (list k (book_of ws).lists) ≤ most k
 few-desk k ws v =
@@ -55,20 +55,23 @@ flat-list k blk h =
     flat_rows (width k) (count (area k blk)) (drop 1 (area k blk))
     ∙ part-part (start k) (size k) 1 (count (area k blk) * width k) blk (rows_in k (count (area k blk)) h)
 
-module _ (k : Kind) (ws : List ℕ) (v : valid (book_of ws) ≡ true) (a s w n m : ℕ) (es : s ≡ start k) (ea : a ≡ 2 + s) (ew : w ≡ width k)
-    (en : n ≡ length (list k (book_of ws).lists)) (em : m ≡ a + n * w - a) where
-  few : n ≤ most k
-  few = omega (arith, few-desk k ws v)
+module _ (k : Kind) (ws : List ℕ) (v : valid (book_of ws) ≡ true) (a w n m : ℕ) (ea : a ≡ 1 + start k) (ew : w ≡ width k)
+    (en : n ≡ get_or ws a 0) (em : m ≡ a + 1 + n * w - (a + 1)) where
+  is : n ≡ length (list k (book_of ws).lists)
+  is = en ∙ count-desk k ws a ea
 
-  pub rows_end : a + n * w ≤ DESK
+  few : n ≤ most k
+  few = omega (arith, few-desk k ws v, is)
+
+  pub rows_end : a + 1 + n * w ≤ DESK
   rows_end = rw ew (omega (arith, rows_in k n few, within k))
 
-  pub rows-desk : take m (drop a ws) ≡ flat (list k (book_of ws).lists)
+  pub rows-desk : take m (drop (a + 1) ws) ≡ flat (list k (book_of ws).lists)
   unfolding block part
   rows-desk =
-      let ec : count (area k (block ws)) ≡ n = sym (length-list k (block ws)) ∙ ap length (sym (list-now k ws)) ∙ sym en in
+      let ec : count (area k (block ws)) ≡ n = sym (length-list k (block ws)) ∙ ap length (sym (list-now k ws)) ∙ sym is in
       let e₀ : m ≡ n * w = omega arith in
       let e₁ : m ≡ n * width k = rw ew at e₀ in
-      let e₂ : a ≡ 1 + (start k + 1) = omega arith in
+      let e₂ : a + 1 ≡ 1 + (start k + 1) = omega arith in
       rw (list-now k ws, flat-list k (block ws) (few-all (block ws) (head_ok ws v) k), ec, e₁, e₂)
       (sym (part-part 1 BLOCK (start k + 1) (n * width k) ws (omega (arith, rows_in k n few, within k))))

@@ -1,5 +1,6 @@
 -- Valid lists: what their page keeps.
 --     held, explicit-low               the rows are there; at most 512 explicit anchors
+--     page-in                          the records of their rows are the page
 --     few_boxes, few-ports, ..         the counts
 --     box-fields, port-fields, ..      coordinates are fields
 --     box-order                        least is at most greatest
@@ -8,7 +9,7 @@
 use mathlib.Core.Path.{◌≡◌, refl}
 use mathlib.Core.List.{List, []}
 use mathlib.Core.Bool.{Bool, true, ◌&&◌}
-use Prim.Native.Nat.{ℕ, zero, suc, ◌+◌, ◌*◌, ◌<◌, ◌≤◌}
+use Prim.Native.Nat.{ℕ, zero, suc, ◌+◌, ◌*◌, ◌/◌, ◌<◌, ◌≤◌}
 use native.Mathlib.Omega.{arith}
 use borrow.Author.Tests.{leb-true}
 use lib.Dec.{leb}
@@ -22,6 +23,8 @@ use Rattle.book.specs.declared.Kind.{Kind}
 use Rattle.book.proofs.Fields.{record-ranged}
 use Rattle.book.proofs.Keeps.{boxes-ok, nets-ok, ports-ok, ends-ok, owners-few, owners-scan, members-few, members-scan}
 use Rattle.sightline.specs.Boxes.{Fields}
+use Rattle.anchors.specs.declared.Records.{Records as Lent}
+use Rattle.anchors.specs.Lent.{records_in}
 use Rattle.anchors.specs.Records.{BOX, ROW, NET, RowsHeld}
 use Rattle.anchors.specs.Explicit.{explicit}
 use Rattle.anchors.proofs.Counted.{Distinct, Owned, explicit-few}
@@ -134,6 +137,15 @@ module _ (l : Lists) (ok : ok_lists l ≡ true) where
         few_boxes = omega (arith, few_boxes);
         few_nets = omega (arith, few_nets);
       }
+
+  -- records of these rows are the page: each list has as many rows as records
+  pub page-in : (r : Lent) → r.boxes.now ≡ flat l.boxes → r.ports.now ≡ flat l.ports → r.nets.now ≡ flat l.nets → r.ends.now ≡ flat l.ends → records_in r ≡ page_of l
+  page-in r eb ep en ee =
+      let nb : length (flat l.boxes) / BOX ≡ length l.boxes = omega (arith, length-flat Kind.Box boxes) in
+      let np : length (flat l.ports) / ROW ≡ length l.ports = omega (arith, length-flat Kind.Port ports) in
+      let nn : length (flat l.nets) / NET ≡ length l.nets = omega (arith, length-flat Kind.Net nets) in
+      let ne : length (flat l.ends) / ROW ≡ length l.ends = omega (arith, length-flat Kind.End ends) in
+      rw (eb, ep, en, ee, nb, np, nn, ne)
 
   pub box-keys : Distinct BOX (length l.boxes) (flat l.boxes)
   box-keys = distinct Kind.Box l.boxes (owners-scan Kind.Box l.boxes (boxes-ok l ok))

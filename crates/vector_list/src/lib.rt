@@ -1,14 +1,20 @@
-// Reads the fixed list of answers: lines of fields parted by tabs, with sections of counted bytes between them.
+// Reads lists of bytes, and the fixed list of answers: lines of fields parted by tabs, with sections of counted bytes between them.
 #![tactic(auto)]
 
-ghost use Rattle.std.specs.Prelude.{◌≡◌, ◌≤◌, length};
+ghost use Rattle.std.specs.Prelude.{◌≡◌, ◌+◌, ◌≤◌, IfSome, length};
 ghost use Rattle.std.specs.Io.{ReadsAtMost};
+ghost use Rattle.vector_list.specs.Words.{unsigned, signed};
 
 use std::io;
 use std::io::Read;
 
 // The size of a list at most.
 pub const LIST: usize = 2097152;
+
+const BASE: u64 = decimals::BASE;
+
+// 2^31, above which a coordinate is counted.
+const BIAS: u64 = 2147483648;
 
 // Room for a list.
 pub fn room() -> [u8; LIST]
@@ -17,7 +23,7 @@ pub fn room() -> [u8; LIST]
     [0; LIST]
 }
 
-// Reads a list until the room is full or the input ends; returns how many bytes. Each turn reads a byte at least, so that there are turns enough.
+// Reads bytes until the room is full or the input ends; returns how many. Each turn reads a byte at least, so that there are turns enough.
 pub fn read_list<R: Read>(input: &mut R, room: &mut [u8]) -> io::Result<usize>
     ensures { ReadsAtMost result room.new }
 {
@@ -32,10 +38,10 @@ pub fn read_list<R: Read>(input: &mut R, room: &mut [u8]) -> io::Result<usize>
     Ok(n)
 }
 
-// A field: its number's word (`decimals::BASE` above the number), or 0 where it is none, and the place behind it and its separator.
-#[derive(Clone, Copy)]
+// A field: its number's word (`decimals::BASE` above the number), if it is one, and the place behind it and its separator.
+#[derive(Clone, Copy, Debug, PartialEq, Eq)]
 pub struct Entry {
-    pub word: u64,
+    pub word: Option<u64>,
     pub next: usize,
 }
 
@@ -44,17 +50,11 @@ pub fn field_end(list: &[u8], at: usize) -> usize
     requires { at ≤ length list.now }
     ensures { (at ≤ result) × (result ≤ length list.now) }
 {
-    let mut i = at;
-    while i < list.len() {
-        if list[i] == decimals::TAB {
-            return i;
-        }
-        if list[i] == decimals::LF {
-            return i;
-        }
-        i += 1;
-    }
-    i
+    let rest = &list[at..];
+    let end = rest
+        .iter()
+        .position(|b| *b == decimals::TAB || *b == decimals::LF);
+    at + end.unwrap_or(rest.len())
 }
 
 // The place behind the separator at e.
@@ -65,26 +65,34 @@ fn behind(list: &[u8], e: usize) -> usize
     if e < list.len() { e + 1 } else { e }
 }
 
-// The number that some bytes write, as its word.
-fn word_of(bytes: &[u8]) -> u64 {
-    let number = decimals::read_number(bytes);
-    match number {
-        decimals::Number::Word(word) => word,
-        decimals::Number::NoNumber => 0,
-    }
-}
-
 // The field at `at`.
 pub fn field(list: &[u8], at: usize) -> Entry
     requires { at ≤ length list.now }
     ensures { (at ≤ result.next) × (result.next ≤ length list.now) }
 {
     let e = field_end(list, at);
-    let word = word_of(&list[at..e]);
     Entry {
-        word: word,
+        word: decimals::read_number(&list[at..e]),
         next: behind(list, e),
     }
+}
+
+// A word's number, if there is one that is not negative; else the greatest word.
+pub fn unsigned(word: Option<u64>) -> u32
+    ensures { result ≡ unsigned word }
+{
+    match word {
+        Some(word) if BASE <= word => ((word - BASE) % BASE) as u32,
+        _ => u32::MAX,
+    }
+}
+
+// A word's number as a coordinate, or 0 where there is none.
+pub fn signed(word: Option<u64>) -> i32
+    ensures { result ≡ signed word }
+{
+    let steps = word.unwrap_or(0) % BASE + BIAS;
+    fixed::down((steps % BASE) as u32)
 }
 
 // Whether the field at `at` is these bytes.
@@ -92,7 +100,7 @@ pub fn is_word(list: &[u8], at: usize, word: &[u8]) -> bool
     requires { at ≤ length list.now }
 {
     let e = field_end(list, at);
-    decimals::same_bytes(&list[at..e], word)
+    &list[at..e] == word
 }
 
 // The place behind the next LF.
@@ -100,63 +108,45 @@ pub fn next_line(list: &[u8], at: usize) -> usize
     requires { at ≤ length list.now }
     ensures { (at ≤ result) × (result ≤ length list.now) }
 {
-    let mut i = at;
-    while i < list.len() {
-        if list[i] == decimals::LF {
-            return i + 1;
-        }
-        i += 1;
-    }
-    i
+    behind(list, decimals::find(list, at, decimals::LF))
 }
 
-// Where a comparison stands: whether all fields were as they should be, and the next one's place.
-#[derive(Clone, Copy)]
-pub struct Match {
-    pub ok: bool,
-    pub next: usize,
-}
-
-// Whether the next field is the number above `decimals::BASE` that `word` is.
-fn word_is(list: &[u8], m: Match, word: u64) -> Match
-    requires { m.next ≤ length list.now }
-    ensures { (m.next ≤ result.next) × (result.next ≤ length list.now) }
+// Whether the field at `at` has this word: the place behind it then.
+fn word_is(list: &[u8], at: usize, word: u64) -> Option<usize>
+    requires { at ≤ length list.now }
+    ensures { IfSome result (λ next. (at ≤ next) × (next ≤ length list.now)) }
 {
-    let at = m.next;
     let f = field(list, at);
-    Match {
-        ok: m.ok & (f.word == word),
-        next: f.next,
+    if f.word == Some(word) {
+        Some(f.next)
+    } else {
+        None
     }
 }
 
-// Whether the next field is the number v.
-pub fn number_is(list: &[u8], m: Match, v: u32) -> Match
-    requires { m.next ≤ length list.now }
-    ensures { (m.next ≤ result.next) × (result.next ≤ length list.now) }
+// Whether the field at `at` is the number v: the place behind it then.
+pub fn number_is(list: &[u8], at: usize, v: u32) -> Option<usize>
+    requires { at ≤ length list.now }
+    ensures { IfSome result (λ next. (at ≤ next) × (next ≤ length list.now)) }
 {
-    word_is(list, m, decimals::BASE + (v as u64))
+    word_is(list, at, BASE + v as u64)
 }
 
-// Whether the next field is the coordinate u, counted from -2^31.
-pub fn step_is(list: &[u8], m: Match, u: u32) -> Match
-    requires { m.next ≤ length list.now }
-    ensures { (m.next ≤ result.next) × (result.next ≤ length list.now) }
+// Whether the field at `at` is the coordinate u, counted from -2^31: the place behind it then.
+pub fn step_is(list: &[u8], at: usize, u: u32) -> Option<usize>
+    requires { at ≤ length list.now }
+    ensures { IfSome result (λ next. (at ≤ next) × (next ≤ length list.now)) }
 {
-    word_is(list, m, decimals::BASE - 2147483648 + (u as u64))
+    word_is(list, at, BASE - BIAS + u as u64)
 }
 
-// Whether the next field is the byte b.
-pub fn byte_is(list: &[u8], m: Match, b: u8) -> Match
-    requires { m.next ≤ length list.now }
-    ensures { (m.next ≤ result.next) × (result.next ≤ length list.now) }
+// Whether the field at `at` is the byte b: the place behind it then.
+pub fn byte_is(list: &[u8], at: usize, b: u8) -> Option<usize>
+    requires { at ≤ length list.now }
+    ensures { IfSome result (λ next. (at ≤ next) × (next ≤ length list.now)) }
 {
-    let at = m.next;
-    let e = field_end(list, at);
-    let byte = [b];
-    let same = decimals::same_bytes(&list[at..e], &byte);
-    Match {
-        ok: m.ok & same,
-        next: behind(list, e),
+    if !is_word(list, at, &[b]) {
+        return None;
     }
+    Some(field(list, at).next)
 }

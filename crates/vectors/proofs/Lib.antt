@@ -1,2 +1,1 @@
-mod Tested
 mod Selected

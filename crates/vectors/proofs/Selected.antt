@@ -1,23 +1,25 @@
--- A desk that was found valid gives what the graph of a page asks.
-use Rattle.std.proofs.Common.{◌≡◌, ℕ, true, List, length, refl}
-use Rattle.book.specs.Book.{list, valid, answer}
-use Rattle.desk.specs.Desk.{book_of, sized}
+-- What a desk that is found valid gives, and how many nodes a graph has.
+use Rattle.std.proofs.Common.{◌≡◌, ℕ, ◌≤◌, ℤ, List, Bool, true, false, Option, None, Some, IfSome, refl, sym, ap, subst, arith}
+use Rattle.desk.specs.Desk.{book_of}
+use Rattle.book.specs.Book.{valid}
 use Rattle.desk.proofs.Valid.{head_ok}
-use Rattle.desk.proofs.Whole.{sound-at}
-use Rattle.book.specs.declared.Kind.{Kind}
-use Rattle.anchors.specs.Records.{records}
-use Rattle.page_graph.specs.Lent.{Asked}
-use Rattle.select.specs.Page.{flat}
+use Rattle.anchors.specs.Records.{Records}
+use Rattle.nodes.specs.Graph.{Graph, NODES}
+use Rattle.page_graph.specs.Page.{graphed}
+use Rattle.page_graph.specs.Lent.{Asked, Answered}
+use Rattle.select.specs.Page.{page_of}
 use Rattle.select.proofs.Asked.{asked}
 
-pub valid-at-0 : (ws : List ℕ) → sized ws (answer (valid (book_of ws)) 0 0) ≡ 0 → valid (book_of ws) ≡ true
-valid-at-0 ws e = (sound-at ws _ refl e).book
-
-pub asked_of : (ws : List ℕ) → valid (book_of ws) ≡ true → (bs ps ns es : List ℕ) (nb np nn ne : ℕ)
-    → bs ≡ flat (list Kind.Box (book_of ws).lists) → nb ≡ length (list Kind.Box (book_of ws).lists)
-    → ps ≡ flat (list Kind.Port (book_of ws).lists) → np ≡ length (list Kind.Port (book_of ws).lists)
-    → ns ≡ flat (list Kind.Net (book_of ws).lists) → nn ≡ length (list Kind.Net (book_of ws).lists)
-    → es ≡ flat (list Kind.End (book_of ws).lists) → ne ≡ length (list Kind.End (book_of ws).lists)
-    → Asked (records bs nb ps np ns nn es ne)
+pub asked-of : (ws : List ℕ) (r : Records) → r ≡ page_of (book_of ws).lists → valid (book_of ws) ≡ true → Asked r
 unfolding book_of
-asked_of ws v bs ps ns es nb np nn ne b1 b2 p1 p2 n1 n2 e1 e2 = rw (b1, b2, p1, p2, n1, n2, e1, e2) (asked (book_of ws).lists (head_ok ws v))
+asked-of ws r e v = subst Asked (sym e) (asked (book_of ws).lists (head_ok ws v))
+
+count : Option ℕ → ℕ
+count None = 0
+count (Some n) = n
+
+pub counted : (r : Option ℕ) (l : List ℤ) (full : Bool) (g : Graph) → Answered r l full g → IfSome r (λ n. n ≤ NODES)
+unfolding graphed count
+counted None l full g a = tt
+counted (Some n) l true g a = let e : n ≡ 0 = ap count a.is in omega (arith, e)
+counted (Some n) l false g a = let e : n ≡ g.count = ap count a.is in omega (arith, e, a.few refl)

@@ -1,147 +1,92 @@
-use crate::tally::Verdict;
-use page_graph::Graphed;
-use vector_list::Match;
-
-// Compares what a page's records give with sections of the list.
-ghost use Rattle.std.specs.Prelude.{◌≡◌, ◌≤◌, true, length};
-ghost use Rattle.desk.specs.Sizes.{DESK};
-ghost use Rattle.book.specs.Book.{valid};
-ghost use Rattle.desk.specs.Desk.{book_of};
+// Compares what a page gives with sections of the list: how many entries were compared, if none differs.
+ghost use Rattle.std.specs.Prelude.{◌≤◌, IfSome, length};
+ghost use Rattle.corridors.specs.Sizes.{ANCHORS};
+ghost use Rattle.nodes.specs.Graph.{NODES};
 ghost use Rattle.nodes.specs.Columns.{GRAPH_WORDS};
+ghost use Rattle.anchors.specs.Lent.{records_in};
+ghost use Rattle.page_graph.specs.Lent.{Asked};
+
+use crate::dump;
+use crate::fields::Fields;
+use anchors::Records;
+use fixed::{Anchor, PaddedBox};
+
+pub type Desk = [u32; desk::DESK];
+
+// What stands in a list before a box or an anchor is put there.
+const NO_BOX: PaddedBox = PaddedBox {
+    min_x: 0,
+    min_y: 0,
+    max_x: 0,
+    max_y: 0,
+};
+
+const NO_ANCHOR: Anchor = Anchor {
+    x: 0,
+    y: 0,
+    directions: 0,
+    ignored: nodes::NONE,
+};
+
+// The records of a desk, if it is valid.
+fn records(desk: &Desk) -> Option<Records>
+    ensures { IfSome result (λ r. Asked (records_in r)) }
+{
+    match desk::validate(desk) {
+        Ok(()) => Some(select::records(desk)),
+        Err(_) => None,
+    }
+}
+
+// The implicit anchors of a desk's page: how many there are, if not too many.
+fn implicit_anchors(desk: &Desk, list: &mut [Anchor]) -> Option<usize>
+    requires { ANCHORS ≤ length list.old }
+    ensures { IfSome result (λ n. n ≤ ANCHORS) }
+{
+    let records = records(desk)?;
+    let mut padded = [NO_BOX; fixed::BOXES];
+    let boxes = &mut padded[..records.boxes.len() / anchors::BOX];
+    sightline::pad_boxes(boxes, records.boxes);
+    corridors::generate_implicit_anchors(boxes, list)
+}
+
+// The graph of a desk's page: how many nodes it has, if the page is not over a limit.
+fn graph_of(desk: &Desk, pruned: bool, nodes: &mut [i32]) -> Option<usize>
+    requires { GRAPH_WORDS ≤ length nodes.old }
+    ensures { IfSome result (λ n. n ≤ NODES) }
+{
+    page_graph::graph_of(records(desk)?, pruned, nodes)
+}
 
 // Compares the implicit anchors.
-pub fn anchors(desk: &[u32], bytes: &[u8]) -> Verdict
-    requires { DESK ≤ length desk.now }
-{
-    let mut list = [0i32; fixed::ANCHOR_WORDS];
-    let boxes = rows::wide(desk[1]);
-    let n = crate::corridor::implicit_anchors(&desk[2..1 + block::BOX_AREA], boxes, &mut list);
-    if corridors::ANCHORS < n {
-        return Verdict {
-            ok: false,
-            entries: 0,
-        };
-    }
-    Verdict {
-        ok: crate::dump::anchors_are(bytes, n, &list),
-        entries: n,
-    }
+pub fn anchors(desk: &Desk, bytes: &[u8]) -> Option<usize> {
+    let mut list = [NO_ANCHOR; corridors::ANCHORS];
+    let n = implicit_anchors(desk, &mut list)?;
+    dump::anchors_are(bytes, &list[..n]).then_some(n)
 }
 
-// Whether the desk is valid.
-fn is_valid(desk: &[u32]) -> bool
-    ensures { result ≡ true → valid (book_of desk.now) ≡ true }
-{
-    desk::validate(desk) == 0
+// Compares the graph's nodes; the header says whether it is pruned.
+pub fn graph(desk: &Desk, mut header: Fields, bytes: &[u8]) -> Option<usize> {
+    let mut nodes = [0; nodes::GRAPH_WORDS];
+    let n = graph_of(desk, header.flag(), &mut nodes)?;
+    dump::nodes_are(bytes, n, &nodes).then_some(n)
 }
 
-// The graph of a desk's page. Where the desk is not valid it counts as crowded.
-fn graph_of(desk: &[u32], pruned: bool, nodes: &mut [i32]) -> Graphed
-    requires in_bounds { DESK ≤ length desk.now }
-    requires in_bounds_2 { GRAPH_WORDS ≤ length nodes.old }
-{
-    if !is_valid(desk) {
-        return Graphed::Crowded;
-    }
-    let boxes = select::rows_of(desk, book::Kind::Box);
-    let nb = select::count_of(desk, book::Kind::Box);
-    let ports = select::rows_of(desk, book::Kind::Port);
-    let np = select::count_of(desk, book::Kind::Port);
-    let nets = select::rows_of(desk, book::Kind::Net);
-    let nn = select::count_of(desk, book::Kind::Net);
-    let ends = select::rows_of(desk, book::Kind::End);
-    let ne = select::count_of(desk, book::Kind::End);
-    page_graph::graph_of(boxes, nb, ports, np, nets, nn, ends, ne, pruned, nodes)
+// Compares how many implicit anchors the page has, and how many nodes before and after pruning, with the header.
+pub fn counts(desk: &Desk, mut header: Fields) -> Option<usize> {
+    let mut list = [NO_ANCHOR; corridors::ANCHORS];
+    let mut nodes = [0; nodes::GRAPH_WORDS];
+    let same = header.number_is(implicit_anchors(desk, &mut list)? as u32)
+        && header.number_is(graph_of(desk, false, &mut nodes)? as u32)
+        && header.number_is(graph_of(desk, true, &mut nodes)? as u32);
+    same.then_some(0)
 }
 
-// Compares the n nodes of a graph.
-fn compare_nodes(bytes: &[u8], n: usize, nodes: &[i32]) -> Verdict
-    requires { GRAPH_WORDS ≤ length nodes.now }
-{
-    if nodes::NODES < n {
-        return Verdict {
-            ok: false,
-            entries: 0,
-        };
-    }
-    Verdict {
-        ok: crate::dump::nodes_are(bytes, n, nodes),
-        entries: n,
-    }
-}
-
-// Compares the graph's nodes.
-pub fn graph(desk: &[u32], pruned: bool, bytes: &[u8]) -> Verdict
-    requires { DESK ≤ length desk.now }
-{
-    let mut nodes = [0i32; nodes::GRAPH_WORDS];
-    let g = graph_of(desk, pruned, &mut nodes);
-    match g {
-        Graphed::Crowded => Verdict {
-            ok: false,
-            entries: 0,
-        },
-        Graphed::Nodes(n) => compare_nodes(bytes, n, &nodes),
-    }
-}
-
-// Whether the next field of the counts is n.
-fn count_is(list: &[u8], m: Match, n: usize) -> Match
-    requires { m.next ≤ length list.now }
-    ensures { result.next ≤ length list.now }
-{
-    if nodes::NODES < n {
-        return Match {
-            ok: false,
-            next: m.next,
-        };
-    }
-    vector_list::number_is(list, m, n as u32)
-}
-
-// Whether the next field of the counts says how many nodes the graph has.
-fn nodes_counted(list: &[u8], m: Match, desk: &[u32], pruned: bool) -> Match
-    requires next_in_bounds { m.next ≤ length list.now }
-    requires in_bounds { DESK ≤ length desk.now }
-    ensures { result.next ≤ length list.now }
-{
-    let mut nodes = [0i32; nodes::GRAPH_WORDS];
-    let g = graph_of(desk, pruned, &mut nodes);
-    match g {
-        Graphed::Crowded => Match {
-            ok: false,
-            next: m.next,
-        },
-        Graphed::Nodes(n) => count_is(list, m, n),
-    }
-}
-
-// How many implicit anchors there are.
-fn anchors_of(desk: &[u32]) -> usize
-    requires { DESK ≤ length desk.now }
-{
-    let mut list = [0i32; fixed::ANCHOR_WORDS];
-    crate::corridor::implicit_anchors(
-        &desk[2..1 + block::BOX_AREA],
-        rows::wide(desk[1]),
-        &mut list,
-    )
-}
-
-// Compares how many implicit anchors the page has, and how many nodes before and after pruning.
-pub fn counts(desk: &[u32], list: &[u8], at: usize) -> Verdict
-    requires { (DESK ≤ length desk.now) × (at ≤ length list.now) }
-{
-    let word = vector_list::field(list, at);
-    let m = Match {
-        ok: true,
-        next: word.next,
-    };
-    let a = count_is(list, m, anchors_of(desk));
-    let b = nodes_counted(list, a, desk, false);
-    let c = nodes_counted(list, b, desk, true);
-    Verdict {
-        ok: c.ok,
-        entries: 0,
-    }
+// Compares what is printed of a page text, byte by byte; the header says whether the graph is pruned and the wires separated.
+pub fn listing(text: &[u8], mut header: Fields, bytes: &[u8]) -> Option<usize> {
+    let prune = u32::from(header.flag());
+    let separate = u32::from(header.flag());
+    let mut out = [0; page_listing::ROOM];
+    let n = page_listing::list_page(text, prune, separate, &mut out);
+    (&out[..n] == bytes).then_some(n)
 }

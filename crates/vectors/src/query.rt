@@ -1,167 +1,89 @@
-use crate::tally::Verdict;
-use vector_list::Match;
+// Makes a search that the list says, and compares its answer.
+ghost use Rattle.std.specs.Prelude.{◌≤◌};
+ghost use Rattle.nodes.specs.Graph.{NODES};
 
-// Reads the places of a search from its header, searches, and compares the answer's lines.
-ghost use Rattle.std.specs.Prelude.{◌<◌, ◌≤◌, length};
-
-// A word's number, signed.
-pub fn signed(word: u64) -> i32 {
-    let steps = word % decimals::BASE + 2147483648;
-    fixed::down((steps % decimals::BASE) as u32)
-}
-
-// Reads n places from `at` on.
-pub fn read_ends(list: &[u8], at: usize, n: usize, ex: &mut [i32], ey: &mut [i32])
-    requires { (at ≤ length list.now) × (n ≤ length ex.old) × (n ≤ length ey.old) }
-{
-    let mut next = at;
-    let mut i = 0;
-    while i < n {
-        let x = vector_list::field(list, next);
-        let y = vector_list::field(list, x.next);
-        ex[i] = signed(x.word);
-        ey[i] = signed(y.word);
-        next = y.next;
-        i += 1;
-    }
-}
-
-// Whether the next line is a node of a line: place, kind and direction onward.
-fn step_is(list: &[u8], m: Match, x: u32, y: u32, kind: u8, direction: u8) -> Match
-    requires { m.next ≤ length list.now }
-    ensures { result.next ≤ length list.now }
-{
-    let b = crate::dump::place_is(list, m, x, y);
-    let c = vector_list::byte_is(list, b, kind);
-    vector_list::number_is(list, c, direction as u32)
-}
-
-// Whether the list opens with a search's number and its count of nodes.
-fn head_is(list: &[u8], number: u32, n: usize) -> Match
-    requires { n < 4294967296 }
-    ensures { result.next ≤ length list.now }
-{
-    let word = vector_list::field(list, 0);
-    let m = Match {
-        ok: vector_list::is_word(list, 0, b"line"),
-        next: word.next,
-    };
-    let a = vector_list::number_is(list, m, number);
-    vector_list::number_is(list, a, n as u32)
-}
-
-// Whether the list is the answer of a search: its number, and its line of n nodes.
-pub fn answer_is(
-    list: &[u8],
-    number: u32,
-    n: usize,
-    lx: &[i32],
-    ly: &[i32],
-    kinds: &[u8],
-    dirs: &[u8],
-) -> bool
-    requires { (n ≤ 4096) × (n ≤ length lx.now) × (n ≤ length ly.now) × (n ≤ length kinds.now) × (n ≤ length dirs.now) }
-{
-    let mut m = head_is(list, number, n);
-    let mut i = 0;
-    while i < n {
-        m = step_is(
-            list,
-            m,
-            fixed::at(lx, i),
-            fixed::at(ly, i),
-            kinds[i],
-            dirs[i],
-        );
-        i += 1;
-    }
-    m.ok & (m.next == list.len())
-}
-
-// A search's header: pruned (1) or not (0), the start, the count of its ends, and the first end's place in the list.
-#[derive(Clone, Copy)]
-pub struct Query {
-    pub prune: u32,
-    pub x: i32,
-    pub y: i32,
-    pub ends: usize,
-    pub next: usize,
-}
-
-// The header at `at`.
-pub fn read_query(list: &[u8], at: usize) -> Query
-    requires { at ≤ length list.now }
-    ensures { result.next ≤ length list.now }
-{
-    let word = vector_list::field(list, at);
-    let prune = vector_list::field(list, word.next);
-    let x = vector_list::field(list, prune.next);
-    let y = vector_list::field(list, x.next);
-    let n = vector_list::field(list, y.next);
-    Query {
-        prune: crate::section::unsigned(prune.word),
-        x: signed(x.word),
-        y: signed(y.word),
-        ends: crate::section::unsigned(n.word) as usize,
-        next: n.next,
-    }
-}
+use crate::fields::Fields;
+use crate::page::Desk;
+use nodes::NODES;
 
 // The most ends of a search in the list: one more than a search takes.
-const ENDS: usize = 4097;
+const ENDS: usize = desk_search::ENDS + 1;
 
-// How many nodes a line has: its last one alone has the kind E; 0 where there is none.
-fn nodes_of(kinds: &[u8]) -> usize
-    ensures { result ≤ length kinds.now }
-{
-    let mut i = 0;
-    while i < kinds.len() {
-        if kinds[i] == b'E' {
-            return i + 1;
+// A line of nodes, as a search leaves it: places, kinds and directions in lists of their own, which C lends elsewhere.
+#[derive(Drop)]
+struct Line {
+    xs: [i32; NODES],
+    ys: [i32; NODES],
+    kinds: [u8; NODES],
+    directions: [u8; NODES],
+}
+
+impl Line {
+    const EMPTY: Line = Line {
+        xs: [0; NODES],
+        ys: [0; NODES],
+        kinds: [0; NODES],
+        directions: [0; NODES],
+    };
+
+    // How many nodes it has: its last one alone has the kind E; 0 where there is none.
+    fn count(&self) -> usize
+        ensures { result ≤ NODES }
+    {
+        let last = self.kinds.iter().position(|kind| *kind == b'E');
+        last.map_or(0, |i| i + 1)
+    }
+
+    // Whether the list is the answer of a search with this number and line: how many nodes there are, each a place, a kind and a direction onward.
+    fn is_answer(&self, number: u32, list: &[u8]) -> bool {
+        let n = self.count();
+        let mut fields = Fields::of(list);
+        if !(matches!(fields.next(), b"line")
+            && fields.number_is(number)
+            && fields.number_is(n as u32))
+        {
+            return false;
         }
-        i += 1;
+        for i in 0..n {
+            let same = fields.step_is(fixed::at(&self.xs, i))
+                && fields.step_is(fixed::at(&self.ys, i))
+                && fields.byte_is(self.kinds[i])
+                && fields.number_is(self.directions[i] as u32);
+            if !same {
+                return false;
+            }
+        }
+        fields.is_empty()
     }
-    0
 }
 
-// Compares a search on the desk with its answer.
-fn compare(desk: &[u32], q: Query, ex: &[i32], ey: &[i32], bytes: &[u8]) -> Verdict {
-    let mut lx: [i32; 4096] = [0; 4096];
-    let mut ly: [i32; 4096] = [0; 4096];
-    let mut kinds: [u8; 4096] = [0; 4096];
-    let mut dirs: [u8; 4096] = [0; 4096];
+// Compares a search whose header says pruned or not, the start, and the ends; how many nodes its line has, if it does not differ.
+pub fn search(desk: &Desk, mut header: Fields, bytes: &[u8]) -> Option<usize> {
+    let prune = header.unsigned();
+    let x = header.signed();
+    let y = header.signed();
+    let n = header.unsigned() as usize;
+    if n > ENDS {
+        return None;
+    }
+    let mut xs = [0; ENDS];
+    let mut ys = [0; ENDS];
+    for i in 0..n {
+        xs[i] = header.signed();
+        ys[i] = header.signed();
+    }
+    let mut line = Line::EMPTY;
     let number = desk_search::search(
-        desk, q.prune, q.x, q.y, ex, ey, &mut lx, &mut ly, &mut kinds, &mut dirs,
+        desk,
+        prune,
+        x,
+        y,
+        &xs[..n],
+        &ys[..n],
+        &mut line.xs,
+        &mut line.ys,
+        &mut line.kinds,
+        &mut line.directions,
     );
-    let n = nodes_of(&kinds);
-    Verdict {
-        ok: answer_is(bytes, number, n, &lx, &ly, &kinds, &dirs),
-        entries: n,
-    }
-}
-
-// Compares the search with the first ends.
-fn with_ends(desk: &[u32], q: Query, ex: &[i32], ey: &[i32], bytes: &[u8]) -> Verdict
-    requires { (q.ends ≤ length ex.now) × (q.ends ≤ length ey.now) }
-{
-    let n = q.ends;
-    compare(desk, q, &ex[..n], &ey[..n], bytes)
-}
-
-// Compares the search whose header stands at `at`.
-pub fn search(desk: &[u32], list: &[u8], at: usize, bytes: &[u8]) -> Verdict
-    requires { at ≤ length list.now }
-{
-    let q = read_query(list, at);
-    let n = q.ends;
-    if ENDS < n {
-        return Verdict {
-            ok: false,
-            entries: 0,
-        };
-    }
-    let mut ex: [i32; ENDS] = [0; ENDS];
-    let mut ey: [i32; ENDS] = [0; ENDS];
-    read_ends(list, q.next, n, &mut ex, &mut ey);
-    with_ends(desk, q, &ex, &ey, bytes)
+    line.is_answer(number, bytes).then_some(line.count())
 }

@@ -1,56 +1,73 @@
 // What is counted.
-ghost use Rattle.std.specs.Prelude.{◌<◌};
+use std::fmt;
 
-use std::io;
-
-pub const KINDS: usize = 16;
-
-pub const PAGES: usize = 0;
-
-pub const ANCHOR_LISTS: usize = 2;
-
-pub const ANCHORS: usize = 3;
-
-pub const GRAPHS: usize = 4;
-
-pub const NODES: usize = 5;
-
-pub const COUNTS: usize = 6;
-
-pub const SEARCHES: usize = 8;
-
-pub const LINE_NODES: usize = 9;
-
-pub const LISTINGS: usize = 10;
-
-pub const LISTED_BYTES: usize = 11;
-
-pub const REFUSED: usize = 12;
-
-pub const REFUSED_BYTES: usize = 13;
-
-pub const PASSED: usize = 14;
-
-pub const WRONG: usize = 15;
-
-// What a comparison came to: whether all was as it should be, and how many entries were compared.
-#[derive(Clone, Copy)]
-pub struct Verdict {
-    pub ok: bool,
-    pub entries: usize,
+// How many sections of a kind were compared, and how many entries the ones that do not differ have.
+#[derive(Clone, Copy, Debug, Default, PartialEq, Eq)]
+pub struct Count {
+    sections: u64,
+    entries: u64,
 }
 
-// Counts n more of a kind.
-pub fn count(tally: &mut [u64; KINDS], kind: usize, n: u64)
-    requires { kind < 16 }
-{
-    tally[kind] = std::num::wrapping_add_u64(tally[kind], n);
+impl Count {
+    // Counts a section of so many entries, or one that differs; whether it does not.
+    pub fn note(&mut self, compared: Option<usize>) -> bool {
+        self.sections = self.sections.saturating_add(1);
+        if let Some(entries) = compared {
+            self.entries = self.entries.saturating_add(entries as u64);
+        }
+        compared.is_some()
+    }
 }
 
-// Prints how many there were of a kind, and what they are.
-pub fn print(rt: &impl Print, tally: &[u64; KINDS], kind: usize, what: &str) -> io::Result<()>
-    requires { kind < 16 }
-{
-    let n = tally[kind];
-    print!(rt; "{n}{what}")
+#[derive(Clone, Copy, Debug, Default, PartialEq, Eq)]
+pub struct Tally {
+    pub pages: u64,
+    pub anchor_lists: Count,
+    pub graphs: Count,
+    pub counts: Count,
+    pub searches: Count,
+    pub listings: Count,
+    pub refused: Count,
+    pub passed: u64,
+    pub wrong: u64,
+}
+
+impl fmt::Display for Tally {
+    fn fmt<W: fmt::Write>(&self, f: &mut fmt::Formatter<W>) -> fmt::Result {
+        let (lists, graphs) = (self.anchor_lists, self.graphs);
+        let (searches, listings, refused) = (self.searches, self.listings, self.refused);
+        writeln!(f, "{} pages read", self.pages)?;
+        writeln!(
+            f,
+            "{} lists of implicit anchors compared, with {} anchors",
+            lists.sections, lists.entries
+        )?;
+        writeln!(
+            f,
+            "{} graphs compared, with {} nodes",
+            graphs.sections, graphs.entries
+        )?;
+        writeln!(
+            f,
+            "{} counts of anchors and nodes compared",
+            self.counts.sections
+        )?;
+        writeln!(
+            f,
+            "{} searches compared, with {} nodes",
+            searches.sections, searches.entries
+        )?;
+        writeln!(
+            f,
+            "{} listings compared, with {} bytes",
+            listings.sections, listings.entries
+        )?;
+        writeln!(
+            f,
+            "{} refused texts compared, with {} bytes",
+            refused.sections, refused.entries
+        )?;
+        writeln!(f, "{} sections passed over", self.passed)?;
+        writeln!(f, "{} sections differ", self.wrong)
+    }
 }

@@ -1,13 +1,11 @@
--- The anchors so far are those of the first k rows.
-use lib.ListN.{length}
-use mathlib.Core.Path.{◌≡◌}
-use Prim.Native.Nat.{◌-◌, ◌≤◌}
-use Rattle.fixed.specs.Constants.{COORDS}
+-- The anchors so far are those of the rows so far.
+use Rattle.std.proofs.Common.{◌≡◌, ◌≤◌, length, take}
 use Rattle.anchors.specs.Explicit.{with_key, columns}
 use Rattle.anchors.proofs.with_key.Given as goal
 
-abbrev pub invariant-loop-k : goal.invariant-loop-k
-invariant-loop-k l = (columns l.count l.out ≡ with_key l.ends l.rows l.key l.b l.k (columns l.n l.initial.out)) × ((l.k ≤ l.m) × (l.count ≤ COORDS)) × (length l.out ≡ length l.initial.out)
-
-abbrev pub decreases-loop-k : goal.decreases-loop-k
-decreases-loop-k l = l.m - l.k
+abbrev pub invariant-loop-row : goal.invariant-loop-row
+invariant-loop-row l =
+    record {
+      laid : columns (take l.count l.out) ≡ with_key l.ends l.rows l.key l.ignored l.row-index (columns (take l.n l.initial.out));
+      inside : l.count ≤ length l.out;
+    }

@@ -1,14 +1,12 @@
--- The anchors so far are those of the first i keys.
-use lib.ListN.{length}
-use mathlib.Core.Path.{◌≡◌}
-use Prim.Native.Nat.{◌-◌, ◌≤◌}
-use Rattle.fixed.specs.Constants.{COORDS}
+-- The anchors so far are those of the keys so far.
+use Rattle.std.proofs.Common.{◌≡◌, ◌/◌, ◌≤◌, length, take}
+use Rattle.anchors.specs.Records.{ROW}
 use Rattle.anchors.specs.Explicit.{with_keys, columns}
 use Rattle.anchors.proofs.with_keys.Given as goal
 
--- The anchors so far are those of the first i keys.
 abbrev pub invariant-loop-i : goal.invariant-loop-i
-invariant-loop-i l = (columns l.count l.out ≡ with_keys l.ends l.rows l.m l.keys l.width l.i (columns l.n l.initial.out)) × ((l.i ≤ l.l) × (l.count ≤ COORDS)) × (length l.out ≡ length l.initial.out)
-
-abbrev pub decreases-loop-i : goal.decreases-loop-i
-decreases-loop-i l = l.l - l.i
+invariant-loop-i g l =
+    record {
+      laid : columns (take l.count l.out) ≡ with_keys l.ends l.rows (length l.rows / ROW) l.keys g.row.WIDTH l.i (columns (take l.n l.initial.out));
+      inside : l.count ≤ length l.out;
+    }

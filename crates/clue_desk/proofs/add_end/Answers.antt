@@ -1,11 +1,14 @@
--- `clue_desk::add_end` meets its contract: it is the desk's addition with the same coordinates.
+-- `clue_desk::add_end` meets its contract: the row is the record of the arguments.
+use mathlib.Core.Path.{ap, ◌∙◌}
 use mir.ValLaws.{to_z-of_z}
 use mir.Syntax.{w32}
+use Rattle.fixed.specs.Up.{up}
 use Rattle.book.specs.declared.Kind.{Kind}
-use Rattle.desk.proofs.Whole.{as_called}
-use Rattle.clue_desk.proofs.Called.{point-call}
+use Rattle.clue_desk.proofs.Called.{as_called, point-call}
 use Rattle.clue_desk.proofs.add_end.Goals as goal
 
 pub returns : goal.returns
-returns c = let both = as_called _ _ c.args.desk.now _ _ (point-call Kind.End _ _ _ _ _ _ (to_z-of_z w32 c.args.x c.ranges.x) (to_z-of_z w32 c.args.y c.ranges.y))
-    (c.add_end.ensures.value, c.add_end.ensures.desk_after) in record { value = both.0; desk_value = both.1 }
+returns c =
+    let both = as_called _ _ _ _ _ (point-call Kind.End _ _ _ _ _ _ (c.up.ensures ∙ ap up (to_z-of_z w32 _ c.ranges.x)) (c.up-2.ensures ∙ ap up (to_z-of_z w32 _ c.ranges.y)))
+    (c.add.ensures.value, c.add.ensures.desk_after) in
+    record { value = both.0; desk_value = both.1 }

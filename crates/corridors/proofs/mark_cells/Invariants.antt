@@ -1,13 +1,6 @@
 -- The cells before k are marked, the others as they were.
-use Prim.Native.Nat.{◌-◌, ◌≤◌}
-use mathlib.Core.Path.{◌≡◌}
-use lib.ListN.{length}
-use Rattle.fixed.specs.Up.{ups}
-use Rattle.corridors.proofs.Covering.{Marking}
+use Rattle.std.proofs.Common.{◌≡◌, ℕ, ◌<◌, ◌≤◌, false, ◌||◌, ◌&&◌, ltb, leb, get_or}
 use Rattle.corridors.proofs.mark_cells.Given as goal
 
 abbrev pub invariant-loop-k : goal.invariant-loop-k
-invariant-loop-k l = (l.k ≤ l.m) × (length l.marks ≡ length l.initial.marks) × Marking l.f l.t (ups l.xs) l.initial.marks l.marks l.k
-
-abbrev pub decreases-loop-k : goal.decreases-loop-k
-decreases-loop-k l = l.m - l.k
+invariant-loop-k l = ((j : ℕ) → j < l.k → get_or l.marks j false ≡ (get_or l.initial.marks j false || (leb l.f (get_or l.xs j 0) && ltb (get_or l.xs j 0) l.t))) × ((j : ℕ) → l.k ≤ j → get_or l.marks j false ≡ get_or l.initial.marks j false)

@@ -2,11 +2,7 @@ use Prim.Native.Nat.{ℕ, ◌+◌}
 use mathlib.Core.Path.{refl, ap}
 use native.Mathlib.Omega.{arith}
 use Rattle.decimals.proofs.Written as W
-use lib.ListN.{length-set}
 use Rattle.decimals.proofs.put_digits.Goals as goal
-
-pub overflow_add-e : goal.overflow_add-e
-overflow_add-e c = omega (arith, c.width.ensures)
 
 pub loop-w-init : goal.loop-w-init
 loop-w-init c = record { place = ap (λ (n : ℕ). c.args.at + n) c.width.ensures; most = omega (arith, c.width.ensures); fits = omega arith; long = refl; whole = refl }
@@ -22,9 +18,6 @@ loop-w-preserved c = W.back_on _ _ _ _ _ _ c.loop-w.invariant (omega arith)
 
 pub bounds-buf-at : goal.bounds-buf-at
 bounds-buf-at c = omega (arith, W.width-end c.loop-w.w (omega arith))
-
-pub shape_of-buf : goal.shape_of-buf
-shape_of-buf c = simp length-set (omega arith)
 
 pub returns : goal.returns
 returns c = W.back_end _ _ _ _ _ _ _ c.loop-w.invariant (omega arith) (omega (arith, c.width.ensures))

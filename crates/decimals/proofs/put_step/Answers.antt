@@ -10,14 +10,5 @@ bounds-buf-at c = omega (arith, ap length (W.signed_low c.args.u (omega arith)))
 pub put_digits-requires : goal.put_digits-requires
 put_digits-requires c = simp length-set (omega (arith, ap length (W.signed_low c.args.u (omega arith))))
 
-pub shape_of-buf-then-u-lt-BIAS : goal.shape_of-buf-then-u-lt-BIAS
-shape_of-buf-then-u-lt-BIAS c = omega (arith, c.put_digits.auto.buf, length-set c.args.buf.now c.args.at 45)
-
 pub returns-then-u-lt-BIAS : goal.returns-then-u-lt-BIAS
 returns-then-u-lt-BIAS c = W.step-low _ _ _ _ _ (omega arith) (omega arith) c.put_digits.ensures
-
-pub put_digits-requires-2 : goal.put_digits-requires-2
-put_digits-requires-2 c = omega (arith, ap length (W.signed_high c.args.u (omega arith)))
-
-pub returns : goal.returns
-returns c = rw (W.signed_high c.args.u (omega arith)) c.put_digits-2.ensures

@@ -2,7 +2,6 @@
 use mathlib.Core.Bool.{true}
 use mathlib.Core.List.{map}
 use mathlib.Core.Path.{◌≡◌}
-use Prim.Native.Nat.{◌≤◌, ◌-◌}
 use lib.ListN.{length, drop}
 use Rattle.block.specs.Block.{lists_of}
 use Rattle.desk.specs.Desk.{entry_of}
@@ -15,9 +14,9 @@ use Rattle.desk.proofs.Valid
 use Rattle.desk.proofs.ok_entries.Given as goal
 
 abbrev pub invariant-loop-k : goal.invariant-loop-k
-invariant-loop-k l =
-    (l.k ≤ l.depth) × (length l.blk ≡ BLOCK) × (ok_lists (lists_of l.blk) ≡ true)
-    × (scan ok_copy (copies (map entry_of (rows ENTRY l.depth l.pile)) (lists_of l.initial.blk)) ≡ scan ok_copy (copies (drop l.k (Valid.entries_in l.depth l.pile)) (lists_of l.blk)))
-
-abbrev pub decreases-loop-k : goal.decreases-loop-k
-decreases-loop-k l = l.depth - l.k
+invariant-loop-k l = record {
+  long : length l.blk ≡ BLOCK;
+  ok : ok_lists (lists_of l.blk) ≡ true;
+  left : scan ok_copy (copies (map entry_of (rows ENTRY l.depth l.pile)) (lists_of l.initial.blk))
+      ≡ scan ok_copy (copies (drop l.k (Valid.entries_in l.depth l.pile)) (lists_of l.blk));
+}

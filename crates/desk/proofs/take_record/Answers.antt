@@ -2,22 +2,25 @@
 use mathlib.Core.Path.{refl, sym, ◌∙◌}
 use Rattle.rows.specs.Rows.{part}
 use Rattle.block.proofs.Blocks
-use Rattle.desk.specs.Desk.{block}
+use Rattle.desk.specs.Desk.{block, at0}
+use Rattle.book.proofs.Refusals.{passed, refused}
 use Rattle.desk.proofs.Whole
 use Rattle.desk.proofs.take_record.Goals as goal
 
-pub take_number-number-requires : goal.take_number-number-requires
+pub check_add-requires-clause-counted : goal.check_add-requires-clause-counted
 unfolding block part
-take_number-number-requires c = record { counted = c.requires.ready.counted; row_len = c.requires.row_len }
+check_add-requires-clause-counted c = c.requires.ready.counted
 
-pub returns-then-number-ne0 : goal.returns-then-number-ne0
+pub returns-in_err-check_add : goal.returns-in_err-check_add
 unfolding block part
-returns-then-number-ne0 c = record { value = c.take_number-number.ensures; desk_after = Whole.kept _ _ _ c.if-number-ne0.true }
+returns-in_err-check_add c =
+    let q = passed _ _ c.from_residual.ensures.1 in
+    record { value = q ∙ c.in_err-check_add.ensures; desk_after = Whole.kept _ _ _ (λ z. refused _ (sym q ∙ z)) }
 
 pub put_record-requires : goal.put_record-requires
 unfolding block part
-put_record-requires c = record { counted = c.requires.ready.counted; row_len = (c.requires.row_len, Blocks.take-room c.args.kind _ _ _ c.take_number-number.ensures c.if-number-ne0.false) }
+put_record-requires c = record { counted = c.requires.ready.counted; row_len = (c.requires.row_len, Blocks.take-room c.args.kind _ _ _ c.in_ok-check_add.ensures refl) }
 
 pub returns : goal.returns
-unfolding block part
-returns c = record { value = sym c.if-number-ne0.false ∙ c.take_number-number.ensures; desk_after = Whole.changed-at 0 _ _ _ refl (Whole.put_back c.args.kind c.args.row.now c.args.desk.now _ c.put_record.ensures) }
+unfolding block part at0
+returns c = record { value = c.in_ok-check_add.ensures; desk_after = Whole.put_back c.args.kind c.args.row.now c.args.desk.now _ c.put_record.ensures }

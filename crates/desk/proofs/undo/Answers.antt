@@ -1,24 +1,29 @@
 -- `desk::undo` meets its contract. The tests in their order; the depth is the length of the pile.
-use mathlib.Core.Path.{refl}
+use mathlib.Core.Path.{refl, ◌∙◌}
 use native.Mathlib.Omega.{arith}
 use Rattle.book.proofs.Fields.{lists-say}
+use Rattle.book.proofs.Refusals.{passed, refused}
 use Rattle.desk.proofs.Whole
 use Rattle.desk.proofs.undo.Goals as goal
 
-pub returns-then-sound-ne0 : goal.returns-then-sound-ne0
-returns-then-sound-ne0 c = let both = Whole.says-d _ _ c.validate-sound.ensures _ _ _ c.if-sound-ne0.true in record { value = both.0; desk_after = both.1 }
+pub returns-in_err-validate : goal.returns-in_err-validate
+returns-in_err-validate c =
+    let both = Whole.says-d _ _ c.in_err-validate.ensures _ _ _ (refused _) in
+    record { value = passed _ _ c.from_residual.ensures.1 ∙ both.0; desk_after = both.1 }
 
 pub bounds-desk-0 : goal.bounds-desk-0
-bounds-desk-0 c =
-    omega (arith, (Whole.sound-at _ _ c.validate-sound.ensures c.if-sound-ne0.false).long)
+bounds-desk-0 c = omega (arith, (Whole.sound-at _ 0 c.in_ok-validate.ensures refl).long)
 
-pub returns-then-desk-eq0 : goal.returns-then-desk-eq0
-returns-then-desk-eq0 c = let both = Whole.says-n _ _ c.validate-sound.ensures _ _ _ c.if-sound-ne0.false 7
-    (lists-say {f = 0} refl refl (Whole.empty-pile _ c.if-desk-eq0.true)) (omega arith) in record { value = both.0; desk_after = both.1 }
+pub returns-then-depth-eq0 : goal.returns-then-depth-eq0
+returns-then-depth-eq0 c =
+    let both = Whole.says-n _ 0 c.in_ok-validate.ensures _ _ _ refl 7 (lists-say {f = 0} refl refl (Whole.empty-pile _ c.if-depth-eq0.true)) (omega arith) in
+    record { value = both.0; desk_after = both.1 }
 
-pub take_latest-requires : goal.take_latest-requires
-take_latest-requires c = record { sound = Whole.sound-at _ _ c.validate-sound.ensures c.if-sound-ne0.false; nonzero = omega arith }
+pub take_latest-requires-clause-sound : goal.take_latest-requires-clause-sound
+take_latest-requires-clause-sound c = Whole.sound-at _ 0 c.in_ok-validate.ensures refl
 
 pub returns : goal.returns
-returns c = let both = Whole.says-0 _ _ c.validate-sound.ensures _ _ _ c.if-sound-ne0.false 0 (lists-say {f = 0} refl refl (Whole.some-pile _ c.if-desk-eq0.false)) refl _
-    c.take_latest.ensures in record { value = both.0; desk_after = both.1 }
+returns c =
+    let both = Whole.says-0 _ 0 c.in_ok-validate.ensures _ _ _ refl 0 (lists-say {f = 0} refl refl (Whole.some-pile _ c.if-depth-eq0.false)) refl _
+    c.take_latest.ensures in
+    record { value = both.0; desk_after = both.1 }

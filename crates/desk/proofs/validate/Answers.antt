@@ -6,7 +6,7 @@ pub returns-then-desk-lt-DESK : goal.returns-then-desk-lt-DESK
 returns-then-desk-lt-DESK c = Whole.test-1 _ c.if-desk-lt-DESK.true
 
 pub returns-then-not-ok_desk : goal.returns-then-not-ok_desk
-returns-then-not-ok_desk c = Whole.test-2 _ c.if-desk-lt-DESK.false _ c.ok_desk.ensures c.if-not-ok_desk.true-raw
+returns-then-not-ok_desk c = Whole.test-2 _ c.if-desk-lt-DESK.false _ c.ok_desk.ensures c.if-not-ok_desk.true
 
 pub returns : goal.returns
-returns c = Whole.test-0 _ c.if-desk-lt-DESK.false _ c.ok_desk.ensures c.if-not-ok_desk.false-raw
+returns c = Whole.test-0 _ c.if-desk-lt-DESK.false _ c.ok_desk.ensures c.if-not-ok_desk.false

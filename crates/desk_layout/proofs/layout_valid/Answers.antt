@@ -3,7 +3,7 @@ use Rattle.desk_layout.proofs.Call.{valid-asks, valid-on}
 use Rattle.desk_layout.proofs.layout_valid.Goals as goal
 
 pub lay_out_page-requires : goal.lay_out_page-requires
-lay_out_page-requires c = let both = valid-asks c.args.desk.now c.args.prune c.args.separate c.args.nets.now c.args.x.now c.args.y.now c.args.kinds.now c.args.joins.now c.requires.desk_value _ _ _ _ _ _ _ _ c.rows_of-boxes.ensures c.count_of-nb.ensures c.rows_of-ports.ensures c.count_of-np.ensures c.rows_of-ids.ensures c.count_of-nn.ensures c.rows_of-ends.ensures c.count_of-ne.ensures c.requires.in_bounds_2 in record { asked = both.0; placed = both.1.0; in_bounds = both.1.1.0; nn_bound = both.1.1.1 }
+lay_out_page-requires c = let both = valid-asks c.args.desk.now c.args.prune c.args.separate c.args.nets.now c.args.x.now c.args.y.now c.args.kinds.now c.args.joins.now c.requires.desk_value _ c.records.ensures c.requires.in_bounds_2 in record { asked = both.0; placed = both.1.0; in_bounds = both.1.1.0; few = both.1.1.1 }
 
 pub returns : goal.returns
-returns c = let both = valid-on c.args.desk.now c.args.prune c.args.separate c.args.nets.now c.args.x.now c.args.y.now c.args.kinds.now c.args.joins.now c.requires.desk_value _ _ _ _ _ _ _ _ c.rows_of-boxes.ensures c.count_of-nb.ensures c.rows_of-ports.ensures c.count_of-np.ensures c.rows_of-ids.ensures c.count_of-nn.ensures c.rows_of-ends.ensures c.count_of-ne.ensures _ _ (c.lay_out_page.ensures.value, c.lay_out_page.ensures.joins_value) in record { value = both.0; joins_after = both.1 }
+returns c = let both = valid-on c.args.desk.now c.args.prune c.args.separate c.args.nets.now c.args.x.now c.args.y.now c.args.kinds.now c.args.joins.now c.requires.desk_value _ c.records.ensures _ _ (c.lay_out_page.ensures.value, c.lay_out_page.ensures.joins_value) in record { value = both.0; joins_after = both.1 }

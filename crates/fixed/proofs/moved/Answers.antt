@@ -4,22 +4,12 @@ use lib.IntN.{ℤ, nat_abs}
 use mir.Syntax.{w64}
 use mir.Val.{SFits, to_z, of_z}
 use mir.Facts.{to_z-of_z}
-use Rattle.fixed.proofs.Machine.{wider, moved-is, moved-lt}
+use Rattle.fixed.proofs.Machine.{moved-is, moved-lt}
 use Rattle.fixed.proofs.moved.Goals as goal
-
-pub overflow_cast-result-2 : goal.overflow_cast-result-2
-overflow_cast-result-2 c = let h = c.ranges.by in rw to_z-of_z (wider c.args.by h)
-
-pub overflow_add-result : goal.overflow_add-result
-overflow_add-result c = rw ((moved-is c.args.a c.args.by c.requires.0 c.ranges.a.fits c.ranges.by)) ((record { sfits = omega (arith, moved-lt c.args.a c.args.by c.requires.0 c.requires.1) }))
 
 -- a sum that fits, read back
 read_back : (sum m : ℤ) → sum ≡ m → SFits w64 m → to_z w64 (of_z w64 sum) ≡ m
 read_back sum m e f = rw e (to_z-of_z f)
-
-pub overflow_cast-result-3 : goal.overflow_cast-result-3
-overflow_cast-result-3 c =
-    rw (read_back _ _ (moved-is c.args.a c.args.by c.requires.0 c.ranges.a.fits c.ranges.by) (record { sfits = omega (arith, moved-lt c.args.a c.args.by c.requires.0 c.requires.1) })) (tt, record { fits = moved-lt c.args.a c.args.by c.requires.0 c.requires.1 })
 
 pub returns : goal.returns
 returns c =

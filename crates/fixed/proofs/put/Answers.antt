@@ -6,6 +6,7 @@ use Rattle.fixed.proofs.Lists.{ups-set}
 use Rattle.fixed.proofs.put.Goals as goal
 
 -- the bits that `down` gave, read back, are what it gave
+
 pub returns : goal.returns
 returns c =
     let back : to_z w32 (of_z w32 c.down-x.result) ≡ c.down-x.result = search rules in

@@ -1,18 +1,25 @@
--- Too many nodes, pruned, or as it was built.
-use mathlib.Core.Path.{refl}
-use Rattle.scan.specs.Lent.{anchors as anchors_of}
-use Rattle.graph.specs.Build.{boxes_of}
-use Rattle.graph.proofs.Wholes.{made-full, made_plain, made-pruned}
+-- Pruned, or as it was built.
+use Rattle.std.proofs.Common.{ap, ◌∙◌, arith}
+use Rattle.nodes.specs.Graph.{Graph}
+use Rattle.nodes.specs.Columns.{graph}
+use Rattle.prune.specs.Prune.{prune}
+use Rattle.prune.proofs.Lent.{prune-less}
+use Rattle.graph.specs.Build.{made}
 use Rattle.graph.proofs.make.Goals as goal
 
-pub returns-then-n-gt-NODES : goal.returns-then-n-gt-NODES
-returns-then-n-gt-NODES c = made-full c.whole-n.ensures c.if-n-gt-NODES.true
-
 pub returns-then-pruned : goal.returns-then-pruned
+unfolding made
 returns-then-pruned c =
-    let a = c.args in
-    made-pruned (boxes_of a.boxes.now a.b) (anchors_of a.anchors.now a.explicit a.a) a.pruned refl refl c.if-pruned.true c.whole-n.ensures c.if-n-gt-NODES.false c.remove_redundant_nodes.ensures
+    let h = c.in_ok-n.ensures in
+    let p = c.remove_redundant_nodes.ensures in
+    rw c.if-pruned.true
+    (record {
+      fits = omega (arith, ap (λ (g : Graph). g.count) h.same, h.few);
+      held = record { few = omega (arith, prune-less (graph c.in_ok-n.n c.whole.new.nodes), ap (λ (g : Graph). g.count) p, h.few); same = p ∙ ap prune h.same };
+    })
 
-pub returns : goal.returns
-returns c = let a = c.args in
-    made_plain (boxes_of a.boxes.now a.b) (anchors_of a.anchors.now a.explicit a.a) a.pruned refl c.if-pruned.false c.whole-n.ensures c.if-n-gt-NODES.false
+pub returns-else-pruned : goal.returns-else-pruned
+unfolding made
+returns-else-pruned c =
+    let h = c.in_ok-n.ensures in
+    rw c.if-pruned.false (record { fits = omega (arith, ap (λ (g : Graph). g.count) h.same, h.few); held = h })

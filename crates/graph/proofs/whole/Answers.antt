@@ -1,39 +1,43 @@
--- The axis lists are parts of lent lists; on them the graph is built.
-use Rattle.fixed.specs.Columns.{column}
-use mathlib.Core.Path.{◌≡◌, sym}
-use mathlib.Core.List.{List}
-use native.Mathlib.Omega.{arith}
-use lib.IntN.{ℤ}
-use lib.ListN.{length, take}
-use lib.Seq.{length-take-le}
-use Rattle.axis.proofs.Axis.{none-strict}
-use Rattle.graph.proofs.Wholes.{axis-rising, axis-is, whole_by}
+-- The axis lists are the first words of two arrays; on them the graph is built.
+use Rattle.std.proofs.Common.{◌≡◌, length, take, refl, arith}
+use Rattle.fixed.specs.Boxes.{anchor_xs, anchor_ys}
+use Rattle.axis.specs.Axis.{axis, inserts}
+use Rattle.axis.proofs.Axis.{axis-sorted}
+use Rattle.graph.specs.Build.{whole}
+use Rattle.graph.proofs.Wholes.{axis-rising, axis-more}
 use Rattle.graph.proofs.whole.Goals as goal
 
--- The axis lists are parts of lent lists; on them the graph is built.
-pub axis_of-nx-requires : goal.axis_of-nx-requires
-axis_of-nx-requires c = (omega arith, omega arith, none-strict)
+pub loop-anchor-init : goal.loop-anchor-init
+unfolding inserts
+loop-anchor-init c = record { x_axis = refl; y_axis = refl; few_x = omega arith; few_y = omega arith }
 
-pub axis_of-ny-requires : goal.axis_of-ny-requires
-axis_of-ny-requires c = (omega arith, omega arith, none-strict)
+pub insert-nx-requires : goal.insert-nx-requires
+insert-nx-requires c = (omega arith, rw c.loop-anchor.invariant.x_axis (axis-sorted _ _).rising)
 
-pub slice_bounds-build-end-2 : goal.slice_bounds-build-end-2
-slice_bounds-build-end-2 c =
-    let l : List ℤ = c.axis_of-nx.new.axis in
-    let k : length l ≡ length c.args.ax.now = c.axis_of-nx.auto.axis in
-    sym (length-take-le c.axis_of-nx.result l (omega (arith, c.axis_of-nx.ensures.upper_bound)))
+pub insert-ny-requires : goal.insert-ny-requires
+insert-ny-requires c = (omega arith, rw c.loop-anchor.invariant.y_axis (axis-sorted _ _).rising)
 
-pub slice_bounds-build-end-4 : goal.slice_bounds-build-end-4
-slice_bounds-build-end-4 c =
-    let l : List ℤ = c.axis_of-ny.new.axis in
-    let k : length l ≡ length c.args.ay.now = c.axis_of-ny.auto.axis in
-    sym (length-take-le c.axis_of-ny.result l (omega (arith, c.axis_of-ny.ensures.upper_bound)))
+pub loop-anchor-preserved : goal.loop-anchor-preserved
+loop-anchor-preserved c =
+    let i = c.loop-anchor.invariant in
+    record {
+      x_axis = axis-more _ _ _ _ _ _ (omega arith) i.x_axis c.insert-nx.ensures.axis_value;
+      y_axis = axis-more _ _ _ _ _ _ (omega arith) i.y_axis c.insert-ny.ensures.axis_value;
+      few_x = omega (arith, c.insert-nx.ensures.upper_bound);
+      few_y = omega (arith, c.insert-ny.ensures.upper_bound);
+    }
 
-pub build-requires : goal.build-requires
-build-requires c = let a = c.args in record { paged = record { few = c.requires.b_bound.0; held = c.requires.b_bound.1; x_rising = axis-rising c.axis_of-nx.new.axis (column 0 a.a a.anchors.now) c.axis_of-nx.result a.a c.axis_of-nx.ensures.axis_value; y_rising = axis-rising c.axis_of-ny.new.axis (column 2560 a.a a.anchors.now) c.axis_of-ny.result a.a c.axis_of-ny.ensures.axis_value }; a_bound = c.requires.a_bound; in_bounds = c.requires.in_bounds }
+pub build-requires-clause-paged : goal.build-requires-clause-paged
+build-requires-clause-paged c =
+    let i = c.loop-anchor.invariant in
+    record { x_rising = rw i.x_axis (axis-rising _ _); y_rising = rw i.y_axis (axis-rising _ _) }
 
 pub returns : goal.returns
+unfolding whole
 returns c =
-    let a = c.args in
-    let e = whole_by a.boxes.now a.b (take c.axis_of-nx.result c.axis_of-nx.new.axis) (take c.axis_of-ny.result c.axis_of-ny.new.axis) a.anchors.now a.explicit a.a (axis-is c.axis_of-nx.new.axis (column 0 a.a a.anchors.now) c.axis_of-nx.result a.a c.axis_of-nx.ensures.axis_value) (axis-is c.axis_of-ny.new.axis (column 2560 a.a a.anchors.now) c.axis_of-ny.result a.a c.axis_of-ny.ensures.axis_value) in
-    rw e at c.build.ensures
+    let a = c.args.anchors.now in
+    let i = c.loop-anchor.invariant in
+    let e : c.loop-anchor.anchor-index ≡ length a = omega arith in
+    let x : take c.loop-anchor.nx c.loop-anchor.ax ≡ axis (anchor_xs a) (length a) = rw e at i.x_axis in
+    let y : take c.loop-anchor.ny c.loop-anchor.ay ≡ axis (anchor_ys a) (length a) = rw e at i.y_axis in
+    rw (x, y) at c.build.ensures

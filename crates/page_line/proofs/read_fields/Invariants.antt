@@ -1,10 +1,7 @@
-use Prim.Native.Nat.{◌-◌}
-use Rattle.page_line.specs.Fields.{MOST}
+use Rattle.std.proofs.Common.{◌≡◌, length}
+use Rattle.decimals.specs.Bytes.{TAB, split}
 use Rattle.page_line.proofs.Shapes as S
 use Rattle.page_line.proofs.read_fields.Given as goal
 
-abbrev pub invariant-loop-n : goal.invariant-loop-n
-invariant-loop-n l = S.Fields l.s l.from l.vals l.at l.n
-
-abbrev pub decreases-loop-n : goal.decreases-loop-n
-decreases-loop-n l = MOST - l.n
+abbrev pub invariant-loop-field : goal.invariant-loop-field
+invariant-loop-field l = (l.n ≡ length l.yielded) × S.Fields (split TAB l.s) l.vals l.n

@@ -1,36 +1,24 @@
-use mathlib.Core.Path.{refl}
-use native.Mathlib.Omega.{arith}
-use borrow.Author.Rules.{rules}
+use Rattle.std.proofs.Common.{refl}
 use borrow.Author.Tests.{lt-ltb, le-ltb}
-use Rattle.fixed.proofs.Lists.{length-ups}
 use Rattle.nodes.proofs.Nodes.{find_first}
+use Rattle.nodes.specs.Columns.{graph}
+use Rattle.scan.specs.Lent.{Mapped}
 use Rattle.scan.specs.Scan.{scan_anchor}
 use Rattle.scan.proofs.scan_anchor.Goals as goal
+use Rattle.scan.proofs.scan_anchor.Goals.{else-node-n-via-then-node-n+then-i-page+else-j-page, else-node-n-via-then-node-n+else-i-page, else-node-n-via-else-node-n}
 
-pub look_up-node-requires : goal.look_up-node-requires
-look_up-node-requires c = record { n_bound = search rules; mapped = c.requires.keyed.mapped c.requires.n_bound }
-
-pub index-i-requires : goal.index-i-requires
-index-i-requires c = record { ordered = c.requires.paged.x_rising.rising }
-
-pub index-j-requires : goal.index-j-requires
-index-j-requires c = record { ordered = c.requires.paged.y_rising.rising }
-
-pub scans-requires : goal.scans-requires
-scans-requires c = record { paged = c.requires.paged; in_bounds = c.requires.in_bounds; n_bound = omega arith; keyed = c.requires.keyed }
-
-pub returns-then-j-ay : goal.returns-then-j-ay
+pub returns-then-j-page : goal.returns-then-j-page
 unfolding scan_anchor
-returns-then-j-ay c = record { built = rw (find_first _ _ _ _, ← c.look_up-node.ensures, ← c.index-i.ensures, ← c.index-j.ensures, length-ups _, length-ups _, lt-ltb _ _ c.if-node-n.true, lt-ltb _ _ c.if-i-ax.true, lt-ltb _ _ c.if-j-ay.true) c.scans.ensures.built; keyed_2 = c.scans.ensures.keyed_2 }
-
-pub returns-then-i-ax : goal.returns-then-i-ax
-unfolding scan_anchor
-returns-then-i-ax c = record { built = rw (find_first _ _ _ _, ← c.look_up-node.ensures, ← c.index-i.ensures, ← c.index-j.ensures, length-ups _, length-ups _, lt-ltb _ _ c.if-node-n.true, lt-ltb _ _ c.if-i-ax.true, le-ltb _ _ c.if-j-ay.false) (record { full = λ h. absurd (omega arith); same = λ h. refl }); keyed_2 = c.requires.keyed }
-
-pub returns-then-node-n : goal.returns-then-node-n
-unfolding scan_anchor
-returns-then-node-n c = record { built = rw (find_first _ _ _ _, ← c.look_up-node.ensures, ← c.index-i.ensures, length-ups _, lt-ltb _ _ c.if-node-n.true, le-ltb _ _ c.if-i-ax.false) (record { full = λ h. absurd (omega arith); same = λ h. refl }); keyed_2 = c.requires.keyed }
+returns-then-j-page c =
+    rw (find_first _ _ _ _, ← c.look_up-node.ensures, ← c.index-i.ensures, ← c.index-j.ensures, lt-ltb _ _ c.if-node-n.true, lt-ltb _ _ c.if-i-page.true, lt-ltb _ _ c.if-j-page.true) c.scans.ensures
 
 pub returns : goal.returns
 unfolding scan_anchor
-returns c = record { built = rw (find_first _ _ _ _, ← c.look_up-node.ensures, le-ltb _ _ c.if-node-n.false) (record { full = λ h. absurd (omega arith); same = λ h. refl }); keyed_2 = c.requires.keyed }
+returns c =
+    let here : Mapped (graph c.args.n c.args.nodes.now) c.args.nodes.now c.args.map.now c.args.n = record { held = record { few = c.requires.n_bound; same = refl }; keyed = c.requires.keyed } in
+    rw (find_first _ _ _ _, ← c.look_up-node.ensures, ← c.index-i.ensures, ← c.index-j.ensures)
+    (elim c.else-node-n.branch [
+      | else-node-n-via-then-node-n+then-i-page+else-j-page w ↦ rw (lt-ltb _ _ w.if-node-n.true, lt-ltb _ _ w.if-i-page.true, le-ltb _ _ w.if-j-page.false) here
+      | else-node-n-via-then-node-n+else-i-page w ↦ rw (lt-ltb _ _ w.if-node-n.true, le-ltb _ _ w.if-i-page.false) here
+      | else-node-n-via-else-node-n w ↦ rw (le-ltb _ _ w.if-node-n.false) here
+    ])

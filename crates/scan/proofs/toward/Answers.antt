@@ -1,18 +1,26 @@
--- The scan walks as far as `extent` says.
-use native.Mathlib.Omega.{arith}
-use borrow.Author.Tests.{lt-ltb, le-ltb}
-use Rattle.scan.proofs.Folds.{built-by}
-use Rattle.scan.proofs.Extents.{lent-x, lent-y, toward-x, toward-y}
+use Rattle.std.proofs.Common.{sym, ◌∙◌, refl, arith}
+use Rattle.scan.specs.Scan.{toward}
+use Rattle.scan.specs.Walk.{scan}
+use Rattle.scan.proofs.Reaches.{side-x, side-y, reach-within}
 use Rattle.scan.proofs.toward.Goals as goal
+use Rattle.scan.proofs.toward.Goals.{in-X, in-Y}
 
-pub walk-requires : goal.walk-requires
-walk-requires c = record { in_bounds = c.requires.in_bounds; n_bound = omega arith; from_in_bounds = (omega arith, lent-x _ _ _ _ _ _ _ _ _ c.extent-m.ensures (lt-ltb _ _ c.if-d-lt2.true) (omega arith)); keyed = c.requires.keyed }
+pub returns-then-not-has : goal.returns-then-not-has
+unfolding toward
+returns-then-not-has c =
+    rw (sym c.has.ensures ∙ c.if-not-has.true) (record { held = record { few = c.requires.n_bound.0; same = refl }; keyed = c.requires.keyed })
 
-pub returns-then-d-lt2 : goal.returns-then-d-lt2
-returns-then-d-lt2 c = record { built = built-by c.walk.ensures.built (rw c.extent-m.ensures (toward-x _ _ _ _ _ _ _ (lt-ltb _ _ c.if-d-lt2.true))); keyed_2 = c.walk.ensures.keyed_2 }
-
-pub walk-requires-2 : goal.walk-requires-2
-walk-requires-2 c = record { in_bounds = c.requires.in_bounds; n_bound = omega arith; from_in_bounds = (omega arith, lent-y _ _ _ _ _ _ _ _ _ c.extent-m.ensures (le-ltb _ _ c.if-d-lt2.false) (omega arith)); keyed = c.requires.keyed }
+pub walk-requires-clause-from_in : goal.walk-requires-clause-from_in
+walk-requires-clause-from_in c =
+    elim c.match-axis.branch [
+      | in-X w ↦ rw (c.reach-m.ensures, w.at-is) (omega arith, reach-within _ _ _ _ _ (omega arith))
+      | in-Y w ↦ rw (c.reach-m.ensures, w.at-is) (omega arith, reach-within _ _ _ _ _ (omega arith))
+    ]
 
 pub returns : goal.returns
-returns c = record { built = built-by c.walk-2.ensures.built (rw c.extent-m.ensures (toward-y _ _ _ _ _ _ _ (le-ltb _ _ c.if-d-lt2.false))); keyed_2 = c.walk-2.ensures.keyed_2 }
+unfolding toward scan
+returns c =
+    elim c.match-axis.branch [
+      | in-X w ↦ rw (sym c.has.ensures ∙ c.if-not-has.false, side-x _ w.in-X.ensures) (rw (c.reach-m.ensures, w.at-is, ← w.in-X.ensures) at c.walk.ensures)
+      | in-Y w ↦ rw (sym c.has.ensures ∙ c.if-not-has.false, side-y _ w.in-Y.ensures) (rw (c.reach-m.ensures, w.at-is, ← w.in-Y.ensures) at c.walk.ensures)
+    ]

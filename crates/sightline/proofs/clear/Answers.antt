@@ -1,27 +1,25 @@
--- Every box is asked, also behind one that stops the way, so that several can be asked at once.
--- whether one of the boxes that were passed stops the way
-use mathlib.Core.Path.{◌≡◌, refl, ap}
-use mathlib.Core.Bool.{not}
-use native.Mathlib.Omega.{arith}
+-- One box more.
+use Rattle.std.proofs.Common.{◌≡◌, length, refl, ap, not, arith}
+use Rattle.fixed.proofs.Boxes.{no_box, leasts-at, greatests-at}
+use Rattle.fixed.specs.Boxes.{across}
 use Rattle.sightline.specs.Count.{any}
-use Rattle.sightline.specs.Sight.{blocked}
+use Rattle.sightline.specs.Sight.{box_stops, stops, blocked}
 use Rattle.sightline.proofs.Counting.{any-more}
 use Rattle.sightline.proofs.clear.Goals as goal
 
 pub loop-i-init : goal.loop-i-init
 unfolding any
-loop-i-init c = (omega arith, refl)
-
-pub overflow_add-i : goal.overflow_add-i
-overflow_add-i c = omega arith
-
-pub loop-i-smaller : goal.loop-i-smaller
-loop-i-smaller c = omega arith
+loop-i-init c = refl
 
 pub loop-i-preserved : goal.loop-i-preserved
-loop-i-preserved c = (omega arith, any-more _ _ _ _ c.box_stops-blocked.ensures c.loop-i.invariant.1)
+unfolding box_stops stops
+loop-i-preserved c =
+    let l = leasts-at c.args.boxes.now (across c.args.along) c.loop-i.i no_box c.loop-i-test.true in
+    let h = greatests-at c.args.boxes.now (across c.args.along) c.loop-i.i no_box c.loop-i-test.true in
+    let f = leasts-at c.args.boxes.now c.args.along c.loop-i.i no_box c.loop-i-test.true in
+    let t = greatests-at c.args.boxes.now c.args.along c.loop-i.i no_box c.loop-i-test.true in
+    any-more _ _ _ _ (rw (c.bears.ensures, c.least.ensures, c.greatest.ensures, l, h, f, t)) c.loop-i.invariant
 
 pub returns : goal.returns
 unfolding blocked
-returns c = let e : c.loop-i.i ≡ c.args.n = omega arith in
-    ap not (rw e at c.loop-i.invariant.1)
+returns c = let e : c.loop-i.i ≡ length c.args.boxes.now = omega arith in ap not (rw e at c.loop-i.invariant)

@@ -1,7 +1,6 @@
--- The rows are those of a desk that was found valid.
-use Rattle.vectors.proofs.Selected.{asked_of}
+-- A graph that is made has no more nodes than there is room for.
+use Rattle.vectors.proofs.Selected.{counted}
 use Rattle.vectors.proofs.page.graph_of.Goals as goal
 
-pub graph_of-requires-clause-asked : goal.graph_of-requires-clause-asked
-graph_of-requires-clause-asked c =
-    asked_of c.args.desk.now (c.is_valid.ensures c.if-not-is_valid.false) _ _ _ _ _ _ _ _ c.rows_of-boxes.ensures c.count_of-nb.ensures c.rows_of-ports.ensures c.count_of-np.ensures c.rows_of-nets.ensures c.count_of-nn.ensures c.rows_of-ends.ensures c.count_of-ne.ensures
+pub returns : goal.returns
+returns c = counted _ _ _ _ c.graph_of.ensures
