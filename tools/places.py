@@ -32,8 +32,8 @@ def functions(text):
             depth += {'(': 1, ')': -1}.get(text[i], 0)
             i += 1
         parameters = [p for p in re.split(r',(?![^<\[(]*[>\])])', text[m.end():i - 1]) if p.strip()]
-        end = re.compile(r'^\s*\{', re.M).search(text, i)
-        head = text[i:text.find('\n{', i) if text.find('\n{', i) >= 0 else len(text)]
+        end = re.compile(r'^\s*\{|\{$', re.M).search(text, i)
+        head = text[i:end.start() if end else len(text)]
         yield m.group(1), parameters, head
 
 def main():

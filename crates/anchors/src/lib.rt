@@ -7,10 +7,9 @@ ghost use Rattle.anchors.specs.Lent.{records_in};
 ghost use Rattle.anchors.specs.Explicit.{takes, with_key, with_keys, explicit, columns};
 
 use fixed::Anchor;
+pub use fixed::BOX;
 
-// Words of a box, of a port or an end, and of a net.
-pub const BOX: usize = 5;
-
+// Words of a port or an end, and of a net; those of a box are `fixed::BOX`.
 pub const ROW: usize = 4;
 
 pub const NET: usize = 1;
@@ -20,13 +19,15 @@ const ALL: u32 = 15;
 
 // A page's records, as rows of words, as many as fit: a box is its id, least x, least y, greatest x and greatest y, a port its box's id, x, y and directions,
 // a net its id, and an end its net's id, x, y and mark.
-#[derive(Clone, Copy)]
+#[derive(Clone, Copy, Debug, PartialEq, Eq)]
 pub struct Records<'a> {
     pub boxes: &'a [u32],
     pub ports: &'a [u32],
     pub nets: &'a [u32],
     pub ends: &'a [u32],
 }
+
+// Ports by box, or ends by net if `ends` says so: a closure for each test would say the same twice.
 
 // Whether a row is an anchor of `key`.
 #[tactic(auto, unfolding(crate::specs::Explicit::takes))]
@@ -37,7 +38,7 @@ fn takes(row: &[u32; ROW], ends: bool, key: u32) -> bool
     own == key && (!ends || mark == 0)
 }
 
-// The anchors of one key among the rows, after the first n: how many there are then.
+// The anchors of one key among the rows, after the first n of the list of the caller, since there is no heap: how many there are then.
 fn with_key(out: &mut [Anchor], n: usize, rows: &[u32], ends: bool, key: u32, ignored: u32) -> usize
     requires n_bound { n ≤ length out.old }
     requires room { length (with_key ends rows.now key ignored (length rows.now / ROW) (columns (take n out.old))).xs ≤ length out.old }

@@ -9,20 +9,15 @@ use native.Mathlib.Nat.{suc-mul}
 use lib.ListN.{length, get_or, set, length-set, replicate, length-replicate, get_or-replicate}
 use lib.Seq.{get_or-set_same, get_or-set_other}
 use lib.Dec.{ltb}
-use borrow.Author.Tests.{lt-ltb, le-ltb, ne_eqb, ltb-true, ltb-false}
-use Rattle.queue.specs.Queue.{UNSET, top, popped, after_pop}
-use Rattle.std.proofs.Common.{Option, Some as Item, None}
+use borrow.Author.Tests.{lt-ltb, le-ltb, ltb-true, ltb-false}
+use Rattle.queue.specs.Queue.{UNSET, top, popped}
+use Rattle.std.proofs.Common.{Some as Item, None}
 use Rattle.queue.proofs.Ranges.{least-in}
 use Rattle.nodes.specs.Graph.{Graph, none, opposite, onward}
-use Rattle.astar.specs.Search.{HIGH, TURNS, St, holds, arrival, penalty_at, relax, relax_to, expand, pop, run, out, Out, begin, found_of}
+use Rattle.astar.specs.Search.{HIGH, TURNS, St, holds, arrival, penalty_at, relax, relax_to, expand, pop, run, out, Out, begin, IsNode}
 use Rattle.astar.specs.Reached.{Reach, start, onto}
-use Rattle.columns.specs.Columns.{Only}
-use Rattle.queue.specs.Columns.{SUM, sums}
-use Rattle.queue.specs.Index.{Indexed}
-use Rattle.astar.specs.Scratch.{estimates, marked, state, Marked, Held}
+use Rattle.astar.specs.Scratch.{Marked}
 use Rattle.astar.proofs.Roads.{Roads, STEEP}
-use Rattle.astar.specs.declared.Found
-use Rattle.astar.specs.declared.Found.{Found}
 use Rattle.astar.proofs.Count.{sum, one_in, sum-set, cnt-set, cnt-le}
 use Rattle.astar.proofs.State.{Inv, Link, mu, relax-inv, relax-falls, relax-mu, back-ok}
 
@@ -258,41 +253,39 @@ module _ (n : ℕ) (G : Graph) (w : Roads n G) (es : List ℕ) (a : ℕ) (an : a
   answer = right TURNS (begin n a) begin-inv begin-mu
 
 -- what the outer loop keeps: the run from here is the run from the start
-pub record Going (n : ℕ) (G : Graph) (es : List ℕ) (a : ℕ) (s : St) (f : Found) : Type 0 where
+pub record Going (n : ℕ) (G : Graph) (es : List ℕ) (a : ℕ) (s : St) : Type 0 where
   pub k : ℕ
   pub same : run k G es s ≡ run TURNS G es (begin n a)
   pub room : mu s ≤ k
   pub inv : Inv n G es a n 0 s
-  pub nothing : f ≡ Found.TheVariants.Nothing
 
-pop-full : (q : List ℕ) (r : Option ℕ) (u : ℕ) → r ≡ popped q → r ≡ Item u → (get_or q (top q) 0 < UNSET) × (top q ≡ u)
-pop-full q r u e f = go (ltb (get_or q (top q) 0) UNSET) refl (sym e ∙ f)
+pop-full : (q : List ℕ) (u : ℕ) → Item u ≡ popped q → (get_or q (top q) 0 < UNSET) × (top q ≡ u)
+pop-full q u e = go (ltb (get_or q (top q) 0) UNSET) refl (sym e)
   where
     go : (t : Bool) → ltb (get_or q (top q) 0) UNSET ≡ t → cond t (Item (top q)) None ≡ Item u → (get_or q (top q) 0 < UNSET) × (top q ≡ u)
     go true b h = (ltb-true _ _ b, cc)
-    go false b h = let z : ◌≡◌ {A = ℕ} 0 1 = cc in absurd (omega arith)
+    go false b h = let z : ⊥ = cc in absurd z
 
-pop-empty : (q : List ℕ) (r : Option ℕ) → r ≡ popped q → r ≡ None → UNSET ≤ get_or q (top q) 0
-pop-empty q r e f = go (ltb (get_or q (top q) 0) UNSET) refl (sym e ∙ f)
+pop-empty : (q : List ℕ) → None ≡ popped q → UNSET ≤ get_or q (top q) 0
+pop-empty q e = go (ltb (get_or q (top q) 0) UNSET) refl (sym e)
   where
     go : (t : Bool) → ltb (get_or q (top q) 0) UNSET ≡ t → cond t (Item (top q)) None ≡ None → UNSET ≤ get_or q (top q) 0
-    go true b h = let z : ◌≡◌ {A = ℕ} 0 1 = cc in absurd (omega arith)
+    go true b h = let z : ⊥ = cc in absurd z
     go false b h = ltb-false _ _ b
 
--- ---- the code's turn: r and s' are what `pop_least` gives
-module _ (n : ℕ) (G : Graph) (w : Roads n G) (es : List ℕ) (a : ℕ) (s : St) (f : Found) (K : Going n G es a s f) (r : Option ℕ) (s' : St)
-    (er : r ≡ popped s.q) (eq : s' ≡ pop s) where
-  pub going-empty : r ≡ None → (f ≡ found_of (run TURNS G es (begin n a)).at) × (s' ≡ (run TURNS G es (begin n a)).end)
+-- ---- the code's turn: s' is what `pop_least` leaves
+module _ (n : ℕ) (G : Graph) (w : Roads n G) (es : List ℕ) (a : ℕ) (s : St) (K : Going n G es a s) (s' : St) (eq : s' ≡ pop s) where
+  pub going-empty : None ≡ popped s.q → ((run TURNS G es (begin n a)).at ≡ none) × (s' ≡ (run TURNS G es (begin n a)).end)
   going-empty h =
-      let x : out none (pop s) ≡ run TURNS G es (begin n a) = sym (run-empty G es s K.k (pop-empty s.q r er h)) ∙ K.same in
-      (K.nothing ∙ ap (λ (o : Out). found_of o.at) x, eq ∙ ap (λ (o : Out). o.end) x)
+      let x : out none (pop s) ≡ run TURNS G es (begin n a) = sym (run-empty G es s K.k (pop-empty s.q h)) ∙ K.same in
+      (sym (ap (λ (o : Out). o.at) x), eq ∙ ap (λ (o : Out). o.end) x)
 
-  module _ (u : ℕ) (h : r ≡ Item u) where
+  module _ (u : ℕ) (h : Item u ≡ popped s.q) where
     full : get_or s.q (top s.q) 0 < UNSET
-    full = (pop-full s.q r u er h).0
+    full = (pop-full s.q u h).0
 
     is-top : top s.q ≡ u
-    is-top = (pop-full s.q r u er h).1
+    is-top = (pop-full s.q u h).1
 
     pub going-in : u < n
     going-in = rw (← is-top) (top_in n G w es a s K.inv)
@@ -324,11 +317,12 @@ module _ (n : ℕ) (G : Graph) (w : Roads n G) (es : List ℕ) (a : ℕ) (s : St
     same' = subst (λ (x : ℕ). run x G es s ≡ run TURNS G es (begin n a)) m.1 K.same
 
     pub going-hit : (holds u es ≡ true)
-        → (Found.TheVariants.Node u ≡ found_of (run TURNS G es (begin n a)).at) × (s' ≡ (run TURNS G es (begin n a)).end)
+        → IsNode (Item u) (run TURNS G es (begin n a)).at × (s' ≡ (run TURNS G es (begin n a)).end)
     going-hit e =
         let e' : holds (top s.q) es ≡ true = rw is-top e in
         let x : out (top s.q) (pop s) ≡ run TURNS G es (begin n a) = sym (run-hit G es s full m.0 e') ∙ same' in
-        (rw (← ap (λ (o : Out). o.at) x, is-top, ne_eqb u none (λ z. omega (arith, z, going-in, w.few))) refl, eq ∙ ap (λ (o : Out). o.end) x)
+        let at : u ≡ (run TURNS G es (begin n a)).at = sym is-top ∙ ap (λ (o : Out). o.at) x in
+        ((at, λ z. omega (arith, at ∙ z, going-in, w.few)), eq ∙ ap (λ (o : Out). o.end) x)
 
     module _ (e : holds u es ≡ false) (t : St) (et : t ≡ expand G es s' u) where
       e' : holds (top s.q) es ≡ false
@@ -340,20 +334,19 @@ module _ (n : ℕ) (G : Graph) (w : Roads n G) (es : List ℕ) (a : ℕ) (s : St
       pub going_less : mu t < mu s
       going_less = rw is-turn (turn-mu n G w es a s K.inv full e')
 
-      pub going_on : Going n G es a t f
+      pub going_on : Going n G es a t
       going_on =
           record {
             k = m.0;
             same = rw is-turn (sym (run_on G es s full m.0 e') ∙ same');
             room = omega (arith, going_less, K.room, m.1);
             inv = rw is-turn (turn-inv n G w es a s K.inv full e');
-            nothing = K.nothing;
           }
 
 -- the loop's first state
-pub going-first : (n : ℕ) (G : Graph) → Roads n G → (es : List ℕ) (a : ℕ) → a < n → (s : St) → s ≡ begin n a → Going n G es a s Found.TheVariants.Nothing
+pub going-first : (n : ℕ) (G : Graph) → Roads n G → (es : List ℕ) (a : ℕ) → a < n → (s : St) → s ≡ begin n a → Going n G es a s
 going-first n G w es a an s e =
-    rw e (record { k = TURNS; same = refl; room = begin-mu n G w es a an; inv = begin-inv n G w es a an; nothing = refl })
+    rw e (record { k = TURNS; same = refl; room = begin-mu n G w es a an; inv = begin-inv n G w es a an })
 
 -- what the test of a mark says
 module _ (n : ℕ) (es l : List ℕ) (M : Marked n es l) (u : ℕ) (un : u < n) (x : ℕ) (ex : x ≡ get_or l u 0) where
@@ -393,17 +386,3 @@ module _ (n : ℕ) (G : Graph) (w : Roads n G) (es : List ℕ) (a : ℕ) where
       go (yes full) false e ih =
           let l = turn-mu n G w es a s I full e in
           run_on G es s full k e ∙ ih _ (turn-inv n G w es a s I full e) (omega arith) (omega arith) ∙ sym (run_on G es s full m e)
-
--- ---- the cells after `pop_least`
-
-module _ (n : ℕ) (a b : List ℕ) (o : Only n SUM a b) where
-  pub popped-state : sums n b ≡ after_pop (sums n a) → state n b ≡ pop (state n a)
-  popped-state e = rw (e, o.others 0 (λ z. omega (arith, z)), o.others 2 (λ z. omega (arith, z)))
-
-  pub popped-held : (xs ys es t t' : List ℕ) → Held n xs ys es a t → Indexed (sums n b) t' → Held n xs ys es b t'
-  popped-held xs ys es t t' H i =
-      record { room = rw o.long H.room; index = i; known = rw (o.others 1 (λ z. omega (arith, z))) H.known; ends = rw (o.others 4 (λ z. omega (arith, z))) H.ends }
-
--- the cells before the first turn
-pub begun-held : (n : ℕ) (xs ys es a b t t' : List ℕ) → Held n xs ys es a t → length b ≡ length a → Indexed (sums n b) t' → estimates n b ≡ estimates n a → marked n b ≡ marked n a → Held n xs ys es b t'
-begun-held n xs ys es a b t t' H l i e m = record { room = rw l H.room; index = i; known = rw e H.known; ends = rw m H.ends }

@@ -1,5 +1,5 @@
 -- What the code keeps in scratch beside the state of the search. No answer depends on it.
-use Rattle.std.specs.Prelude.{ℕ, suc, ◌*◌, ◌≤◌, ◌<◌, ◌≡◌, cond, List, ◌⊎◌, length, get_or}
+use Rattle.std.specs.Prelude.{ℕ, suc, ◌*◌, ◌≤◌, ◌<◌, ◌≡◌, cond, List, ◌⊎◌, length, get_or, replicate}
 use Rattle.columns.specs.Columns.{column}
 use Rattle.queue.specs.Queue.{UNSET}
 use Rattle.queue.specs.Columns.{WIDTH, sums}
@@ -35,6 +35,12 @@ marked n cells = column MARK n cells
 -- the state of the search that n cells hold
 abbrev pub state : ℕ → List ℕ → St
 state n cells = st (scores n cells) (preds n cells) (sums n cells)
+
+-- before the first turn no node has a score, a predecessor or a queue entry
+pub record Unreached (n : ℕ) (cells : List ℕ) : Type 0 where
+  pub no_score : scores n cells ≡ replicate n UNSET
+  pub no_pred : preds n cells ≡ replicate n none
+  pub no_sum : sums n cells ≡ replicate n UNSET
 
 -- a node's estimate is there once it was asked for
 pub record Estimated (n : ℕ) (xs ys es l : List ℕ) : Type 0 where

@@ -222,7 +222,9 @@ fn ids<'a>(blk: &[u32], kind: Kind, words: &'a mut [u32]) -> &'a [u32]
     requires room { most_of kind ≤ length words.old }
     ensures { result.now ≡ ids (list_of kind blk.now) }
 {
-    rows::gather(area(blk, kind), kind.width(), words)
+    let n = records(blk, kind);
+    rows::gather(area(blk, kind), kind.width(), n, words);
+    &words[..n]
 }
 
 // Whether no id is there twice.
@@ -318,7 +320,8 @@ fn place_of(blk: &[u32], kind: Kind, id: u32) -> usize
     requires { Counted blk.now }
     ensures { result ≡ place id (ids (list_of kind blk.now)) }
 {
-    rows::find(area(blk, kind), kind.width(), id).unwrap_or(records(blk, kind))
+    let n = records(blk, kind);
+    rows::find(area(blk, kind), kind.width(), n, id).unwrap_or(n)
 }
 
 // The place of the record that is named so: a box or net by its id, a port or end by its place.

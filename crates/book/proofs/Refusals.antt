@@ -1,7 +1,6 @@
 -- The numbers of refusals: none is 0, so a call is done exactly if it gets 0; and what a `?` hands on, the refusal that it met.
 use mathlib.Core.Path.{◌≡◌, refl, sym, ap, ◌∙◌}
 use mathlib.Core.Bool.{true, false, true≢false}
-use Prim.Native.Nat.{ℕ}
 use lib.Dec.{eqb}
 use borrow.Author.Tests.{eq-eqb}
 use Rattle.std.proofs.Common.{Result, Ok, Err}

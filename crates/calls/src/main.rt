@@ -10,7 +10,7 @@ use std::io;
 use vector_list::{signed, unsigned};
 
 // A line of the list: its word, the six fields behind it as words, and the text that follows it.
-#[derive(Clone, Copy)]
+#[derive(Clone, Copy, Debug, PartialEq, Eq)]
 struct Line<'a> {
     word: &'a [u8],
     fields: [Option<u64>; 6],
@@ -89,7 +89,7 @@ fn same_records(a: &[u32], b: &[u32], kind: Kind) -> bool
 }
 
 // What the list is replayed on: a desk, another one for the texts of surviving records, and the words of a refusal.
-#[derive(Drop)]
+#[derive(Debug, PartialEq, Eq, Drop)]
 struct Desks {
     desk: [u32; desk::DESK],
     other: [u32; desk::DESK],

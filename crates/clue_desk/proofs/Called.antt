@@ -27,7 +27,7 @@ pub net-call : (id : ℕ) → add Kind.Net (id ∷ []) ≡ add Kind.Net (net_rec
 unfolding net_record
 net-call id = refl
 
-pub search-called : (ws : List ℕ) (o p : Outputs) (r prune : ℕ) (x y a b : ℤ) (ex ey : List ℤ) → x ≡ a → y ≡ b
-    → (r ≡ desk_number ws o (query prune (up x) (up y) ex ey)) × (p ≡ desk_outputs ws o (query prune (up x) (up y) ex ey))
-    → (r ≡ desk_number ws o (query prune (up a) (up b) ex ey)) × (lined p ≡ lined (desk_outputs ws o (query prune (up a) (up b) ex ey)))
-search-called ws o p r prune x y a b ex ey e f h = rw (← e, ← f) (h.0, ap lined h.1)
+pub search-called : (ws : List ℕ) (o p : Outputs) (r prune a b : ℕ) (x y : ℤ) (ex ey : List ℤ) → a ≡ up x → b ≡ up y
+    → (r ≡ desk_number ws o (query prune a b ex ey)) × (p ≡ desk_outputs ws o (query prune a b ex ey))
+    → (r ≡ desk_number ws o (query prune (up x) (up y) ex ey)) × (lined p ≡ lined (desk_outputs ws o (query prune (up x) (up y) ex ey)))
+search-called ws o p r prune a b x y ex ey e f h = rw (← e, ← f) (h.0, ap lined h.1)

@@ -25,7 +25,7 @@ use Rattle.page_line.specs.Lines.{text_lines}
 use Rattle.page_line.proofs.Wide.{Wide, AllWide, wide-lines}
 use Rattle.page_text.specs.Reading.{Step, takes_in, takes}
 use Rattle.page_text.specs.Words.{leaves, onward_words, feed_words, text_words, is_lent, read_words, REFUSAL}
-use Rattle.std.specs.Prelude.{Result, Ok, Err}
+use Rattle.std.specs.Prelude.{Ok, Err}
 use Rattle.page_text.proofs.Turns.{After, after, bad-went, step-0}
 use Rattle.page_text.proofs.Limits.{left-bad}
 

@@ -13,7 +13,8 @@ use Rattle.page_text.specs.Words.{REFUSAL, told as refusal_words, read_number, r
 use Rattle.desk_search.specs.Query.{Query}
 use Rattle.desk_search.specs.Search.{Outputs as Line, says as search_says, shows as search_shows, desk_number as search_number, desk_outputs as search_line}
 use Rattle.page_layout.specs.Drawing.{Drawing}
-use Rattle.desk_layout.specs.Layout.{Choice, says as layout_says, shows as layout_shows, desk_number as layout_number, desk_drawing as layout_drawing}
+use Rattle.desk_layout.specs.Layout.{says as layout_says, shows as layout_shows, desk_number as layout_number, desk_drawing as layout_drawing}
+use Rattle.desk_layout.specs.declared.Choice.{Choice}
 
 -- an addition, a retirement or undo; the reading of a text, with the words that are lent for a refusal; a search, with the lists that are lent for its line;
 -- a layout, with the lists that are lent for its drawing

@@ -12,7 +12,10 @@ ghost use Rattle.clue_desk.specs.Calls.Outputs.{refused};
 ghost use Rattle.clue_desk.specs.Views.{search_call, line_left, layout_call, drawing_left};
 
 use book::{Kind, Refusal};
+use desk_layout::Choice;
+use desk_search::Request;
 use fixed::up;
+use path_finding::Output;
 
 // Reads a page text, unless the desk or the refusal's words are lent too small. A line that does not go is told in the refusal's first two words, its 1-based
 // number and the inner number; zeros stand behind them, or in all of them.
@@ -104,11 +107,24 @@ pub fn search(
     ly: &mut [i32],
     kinds: &mut [u8],
     dirs: &mut [u8],
-) -> u32
-    ensures value { result ≡ number (search_call prune x y ex.now ey.now lx.old ly.old kinds.old dirs.old) desk.now }
+) -> Result<(), Refusal>
+    ensures value { number_of result ≡ number (search_call prune x y ex.now ey.now lx.old ly.old kinds.old dirs.old) desk.now }
     ensures dirs_value { line_left lx.new ly.new kinds.new dirs.new ≡ outputs (search_call prune x y ex.now ey.now lx.old ly.old kinds.old dirs.old) desk.now }
 {
-    desk_search::search(desk, prune, x, y, ex, ey, lx, ly, kinds, dirs)
+    let request = Request {
+        prune,
+        x: up(x),
+        y: up(y),
+        end_x: ex,
+        end_y: ey,
+    };
+    let mut output = Output {
+        x: lx,
+        y: ly,
+        kinds,
+        directions: dirs,
+    };
+    desk_search::search(desk, request, &mut output)
 }
 
 // All nets laid out, on the graph pruned (1) or not (0), the wires separated (1) or not (0). A net's row in nets is its number, its first vertex and how many, its
@@ -123,9 +139,10 @@ pub fn layout(
     y: &mut [i32],
     kinds: &mut [u8],
     joins: &mut [u32],
-) -> u32
-    ensures value { result ≡ number (layout_call prune separate nets.old x.old y.old kinds.old joins.old) desk.now }
+) -> Result<(), Refusal>
+    ensures value { number_of result ≡ number (layout_call prune separate nets.old x.old y.old kinds.old joins.old) desk.now }
     ensures joins_value { drawing_left nets.new x.new y.new kinds.new joins.new ≡ outputs (layout_call prune separate nets.old x.old y.old kinds.old joins.old) desk.now }
 {
-    desk_layout::layout(desk, prune, separate, nets, x, y, kinds, joins)
+    let choice = Choice { prune, separate };
+    desk_layout::layout(desk, choice, nets, x, y, kinds, joins)
 }

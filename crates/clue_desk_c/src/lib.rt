@@ -113,7 +113,8 @@ pub extern "C" fn search(
     ensures value { result ≡ number (search_call prune x y ex.now ey.now lx.old ly.old kinds.old dirs.old) desk.now }
     ensures dirs_value { line_left lx.new ly.new kinds.new dirs.new ≡ outputs (search_call prune x y ex.now ey.now lx.old ly.old kinds.old dirs.old) desk.now }
 {
-    clue_desk::search(desk, prune, x, y, ex, ey, lx, ly, kinds, dirs)
+    let found = clue_desk::search(desk, prune, x, y, ex, ey, lx, ly, kinds, dirs);
+    number_of(found)
 }
 
 // All nets laid out, on the graph pruned (1) or not (0), the wires separated (1) or not (0). A net's row in nets is its number, its first vertex and how many, its
@@ -133,5 +134,6 @@ pub extern "C" fn layout(
     ensures value { result ≡ number (layout_call prune separate nets.old x.old y.old kinds.old joins.old) desk.now }
     ensures joins_value { drawing_left nets.new x.new y.new kinds.new joins.new ≡ outputs (layout_call prune separate nets.old x.old y.old kinds.old joins.old) desk.now }
 {
-    clue_desk::layout(desk, prune, separate, nets, x, y, kinds, joins)
+    let laid = clue_desk::layout(desk, prune, separate, nets, x, y, kinds, joins);
+    number_of(laid)
 }

@@ -1,4 +1,4 @@
-// Columns of n words each in one lent list, one behind the other.
+// Columns of n words each in one lent list, one behind the other. Its n stands beside it: each function over a struct of a list that is written would have to promise that it still holds the same list.
 #![tactic(auto)]
 
 ghost use Rattle.std.specs.Prelude.{◌≡◌, ◌+◌, ◌*◌, ◌≤◌, ◌<◌, length, get_or, set, replicate};

@@ -10,7 +10,7 @@ use lib.Seq.{take-set-le}
 use Rattle.fixed.specs.Up.{BIAS}
 use Rattle.zeros.specs.Zeros.{closed}
 use Rattle.nodes.specs.Graph.{Graph}
-use Rattle.vertex.specs.declared.Junction.{Junction}
+use Rattle.vertex.specs.Kinds.{Junction}
 use Rattle.vertex.specs.declared.VertexKind.{VertexKind}
 use Rattle.wire.specs.Ends.{end_vertex, end_kind}
 use Rattle.wire.specs.Lines.{Line, straight}

@@ -1,23 +1,26 @@
 -- The turns of a net are its root wire and its branches; each ending of `connect_net` is what the definition says.
-use mathlib.Core.Path.{◌≡◌, refl, sym, ap, ◌∙◌, subst}
+use mathlib.Core.Path.{◌≡◌, refl, sym, ap, ◌∙◌}
 use mathlib.Core.Bool.{Bool, true, false, cond}
-use mathlib.Core.List.{List}
+use mathlib.Core.List.{List, [], ◌∷◌}
 use Prim.Native.Nat.{ℕ, zero, suc, ◌+◌, ◌-◌, ◌*◌, ◌/◌, ◌%◌, ◌<◌, ◌≤◌}
 use native.Mathlib.Numerals.{add-one}
 use native.Mathlib.Omega.{arith}
 use native.Mathlib.Decide.{dec_lt}
 use lib.Dec.{ltb}
-use lib.ListN.{length, replicate, length-replicate}
-use borrow.Author.Tests.{eq-eqb, ne_eqb, lt-ltb, le-ltb}
+use lib.ListN.{length, get_or, replicate, length-replicate, length-map}
+use Rattle.std.proofs.Math.ListN.{get_or-map}
+use borrow.Author.Tests.{eq-eqb, ne_eqb, lt-ltb}
 use Rattle.nodes.specs.Graph.{Graph}
 use Rattle.path_finding.specs.Places.{known}
 use Rattle.wire.specs.Wires.{Vertices, vertices, ends as ends_of, Wires, wires}
+use Rattle.wire.specs.declared.types.End.{End}
+use Rattle.wire.specs.declared.types.Place.{Place}
+use Rattle.wire.specs.Lent.{words, xs_of, ys_of}
 use Rattle.routing.specs.Branches.{Tried, tried}
 use Rattle.routing.specs.Roots.{slant_of, root_to as pair_to, root_pair}
 use Rattle.routing.proofs.Pairs.{square-least, first-in, second-in}
-use Rattle.net.specs.Lent.{Page}
-use Rattle.net.specs.Nets.{Branched, branched, root_wire, branch_at, branches_to, Net, refused, kept, END_WORDS, no_ends, route_net, connect_net}
-use Rattle.net.proofs.Branching.{Bounded, bounds-now, wire-bounds}
+use Rattle.net.specs.Nets.{Branched, branched, root_wire, root_wire_from, branch_at, branches_to, Net, refused, kept, END_WORDS, no_ends, route_net, connect_net}
+use Rattle.net.proofs.Branching.{Bounded, bounds-now, wire-bounds, at-refused}
 use Rattle.connect.specs.Turns.{turn_at, turns_to, outcome}
 use Rattle.connect.proofs.Keeping.{net-still, wiped}
 use Rattle.connect.proofs.Unused.{turns-unused}
@@ -25,11 +28,6 @@ use Rattle.connect.proofs.Unused.{turns-unused}
 -- ---- one turn
 
 module _ (G : Graph) (px py : List ℕ) (a b : ℕ) where
-  pub turn-root : (num : ℕ) (P : Vertices) (E R : List ℕ) (m j k t : ℕ) (X : Wires) → k ≡ 0 → m ≡ 0 → tried t X ≡ root_wire G px py a b (wires P (ends_of E 0))
-      → branched t X R j ≡ turn_at G px py a b k (branched num (wires P (ends_of E m)) R j)
-  unfolding turn_at
-  turn-root num P E R m j k t X z w e = rw (z, w) (ap (λ (T : Tried). branched T.number T.wires R j) e)
-
   pub turn-branch : (k : ℕ) (S X : Branched) → (k ≡ 0 → ⊥) → X ≡ branch_at G px py a b (k - 1) S → X ≡ turn_at G px py a b k S
   unfolding turn_at
   turn-branch k S X h e = by k refl e
@@ -40,16 +38,14 @@ module _ (G : Graph) (px py : List ℕ) (a b : ℕ) where
 
   -- ---- all turns
 
-  pub turns-none : (S : Branched) → S ≡ turns_to G px py a b 0 S
-  unfolding turns_to
-  turns-none S = refl
+  -- the root wire is the first turn
+  pub turns-root : (S₀ : Branched) (t : ℕ) (X : Wires) → tried t X ≡ root_wire G px py a b S₀.wires → branched t X S₀.joins S₀.j ≡ turns_to G px py a b 1 S₀
+  unfolding turns_to turn_at
+  turns-root S₀ t X e = ap (λ (T : Tried). branched T.number T.wires S₀.joins S₀.j) e
 
   pub turns_more : (k : ℕ) (S₀ S X : Branched) → S ≡ turns_to G px py a b k S₀ → X ≡ turn_at G px py a b k S → X ≡ turns_to G px py a b (k + 1) S₀
   unfolding turns_to
   turns_more k S₀ S X s x = rw (add-one, ← s) x
-
-  pub turns-end : (k n : ℕ) (S₀ S : Branched) → k ≡ n → S ≡ turns_to G px py a b k S₀ → S ≡ turns_to G px py a b n S₀
-  turns-end k n S₀ S e s = rw (← e) s
 
   -- after the first turn the turns are the branches
   abbrev after : Branched → Branched
@@ -68,10 +64,31 @@ module _ (G : Graph) (px py : List ℕ) (a b : ℕ) where
   turns-bounds zero S₀ S p e h m j = absurd (omega arith)
   turns-bounds (suc k) S₀ S p e h m j = bounds-now G px py a b k (after S₀) S (e ∙ turns-are k S₀) (root-bounds S₀ h m j)
 
-  pub turns-first : (k : ℕ) (S₀ S : Branched) → k ≡ 0 → S ≡ turns_to G px py a b k S₀ → S₀.wires.page.n ≤ 512 → S₀.wires.net.m ≡ 0 → (S.wires.page.n ≤ 512) × (S.wires.net.m ≡ 0)
-  turns-first k S₀ S z e h m =
-      let q : S ≡ S₀ = subst (λ (i : ℕ). S ≡ turns_to G px py a b i S₀) z e ∙ sym (turns-none S₀) in
-      (rw q h, rw q m)
+  -- the branch of the endpoint i is the turn behind
+  pub turns-branch : (i : ℕ) (S₀ S X : Branched) → S ≡ turns_to G px py a b (i + 1) S₀ → X ≡ branch_at G px py a b i S → X ≡ turns_to G px py a b (i + 1 + 1) S₀
+  turns-branch i S₀ S X s x =
+      let e : i + 1 - 1 ≡ i = omega arith in
+      turns_more (i + 1) S₀ S X s (turn-branch (i + 1) S X (λ z. omega arith) (rw e x))
+
+  -- nothing follows a refusal
+  pub turns-refused : (d k : ℕ) (S₀ S : Branched) → 0 < k → S ≡ turns_to G px py a b k S₀ → (S.number ≡ 0 → ⊥) → S ≡ turns_to G px py a b (k + d) S₀
+  turns-refused zero k S₀ S p s h = let e : k + 0 ≡ k = omega arith in rw e s
+  turns-refused (suc d) k S₀ S p s h =
+      let e : k + suc d ≡ k + d + 1 = omega arith in
+      rw e (turns_more (k + d) S₀ S S (turns-refused d k S₀ S p s h) (turn-branch (k + d) S S (λ z. omega arith) (at-refused G px py a b (k + d - 1) S h)))
+
+-- the root wire between two places
+pub root-places : (G : Graph) (ps : List Place) (a b : ℕ) (d : Place) (W : Wires) → d ≡ record { x = 0; y = 0 }
+    → root_wire_from G (get_or ps a d).x (get_or ps a d).y (get_or ps b d).x (get_or ps b d).y W ≡ root_wire G (xs_of ps) (ys_of ps) a b W
+unfolding root_wire
+root-places G ps a b d W e =
+    rw (e, get_or-map (λ (p : Place). p.x) ps a (record { x = 0; y = 0 }), get_or-map (λ (p : Place). p.y) ps a (record { x = 0; y = 0 }), get_or-map (λ (p : Place). p.x) ps b (record { x = 0; y = 0 }), get_or-map (λ (p : Place). p.y) ps b (record { x = 0; y = 0 }))
+
+-- the words of a net's ends
+pub length-words : (es : List End) → length (words es) ≡ 4 * length es
+unfolding words
+length-words [] = refl
+length-words (e ∷ es) = let h = length-words es in omega arith
 
 -- from no ends, whatever the rows hold
 pub turns-all : (G : Graph) (px py : List ℕ) (p : ℕ) (P : Vertices) (E R : List ℕ) (j : ℕ) (X : Branched) → length E ≡ END_WORDS → p ≡ root_pair px py (length px)
@@ -109,13 +126,6 @@ Prior xs ys n px py = cond (ltb (length px) 2) 12 (cond (known xs ys n px py (le
 module _ (xs ys : List ℕ) (n : ℕ) (px py : List ℕ) where
   pub prior-few : length px < 2 → 12 ≡ Prior xs ys n px py
   prior-few h = rw (lt-ltb _ _ h)
-
-  module _ (h : 2 ≤ length px) (t : Bool) (e : t ≡ known xs ys n px py (length px)) where
-    pub prior-known : t ≡ true → 0 ≡ Prior xs ys n px py
-    prior-known z = rw (le-ltb _ _ h, ← e, z)
-
-    pub prior-unknown : t ≡ false → 13 ≡ Prior xs ys n px py
-    prior-unknown z = rw (le-ltb _ _ h, ← e, z)
 
   pub prior-two : (r : ℕ) → r ≡ Prior xs ys n px py → r ≡ 0 → 2 ≤ length px
   prior-two r e z = by (dec_lt (length px) 2)
@@ -163,7 +173,6 @@ module _ (G : Graph) (px py : List ℕ) (P : Vertices) (R : List ℕ) (j r : ℕ
         by : ((route_net G px py P R j).number ≡ 0 → ⊥) → X ≡ kept (route_net G px py P R j) P R j
         by w = rw (ne_eqb _ _ w) ((rw s at x) ∙ wiped (route_net G px py P R j).number P R j (route_net G px py P R j) (net-still P R j G px py))
 
--- ---- lengths that calls keep
-
-pub page-kept : {x₁ y₁ letters₁ rows₁ x₂ y₂ letters₂ rows₂ : ℕ} → x₂ ≡ x₁ → y₂ ≡ y₁ → letters₂ ≡ letters₁ → rows₂ ≡ rows₁ → Page x₁ y₁ letters₁ rows₁ → Page x₂ y₂ letters₂ rows₂
-page-kept e0 e1 e2 e3 S = rw (e0, e1, e2, e3) S
+-- as many coordinates as places
+pub length-xs : (ps : List Place) → length (xs_of ps) ≡ length ps
+length-xs ps = simp length-map

@@ -11,12 +11,12 @@ use lib.Seq.{length-take-le, take_all, take_at, take-suc-set, set_out, get_or-ta
 use Rattle.zeros.specs.Zeros.{closed}
 use Rattle.nodes.specs.Graph.{Graph}
 use Rattle.path_finding.specs.Line.{table}
-use Rattle.vertex.specs.declared.Junction.{Junction}
+use Rattle.vertex.specs.Kinds.{Junction}
 use Rattle.wire.specs.Ends.{put_end, stands, first_from, junction_end, end_distance, nearest_end}
 use Rattle.wire.specs.Lines.{Line, straight}
 use Rattle.wire.specs.Wires.{Vertices, Ends, ends as ends_of, Wires, wires, push_end, push_start, push_start_ends, push_corner, push_node, push_nodes, push_vertices, push_fallback_wire, push_fallback, line_vertices, line_ends, fallback_vertices}
 use Rattle.routing.specs.Branches.{Tried, tried, fits, line_wire, fallback_wire, route_wire, joined_end, route_branch, join_branch}
-use Rattle.routing.proofs.Joins.{nearest-le, joined_in}
+use Rattle.routing.proofs.Joints.{nearest-le, joined_in}
 use Rattle.net.specs.Nets.{Branched, branched, along, root_wire, end_word, branch_line, branch_from, branch_at}
 use Rattle.net.proofs.Branching.{some-ends, unrefused, at-either}
 use Rattle.connect.specs.Turns.{turn_at, turns_to, outcome}

@@ -1,166 +1,135 @@
 // `connect_net`: one net of a page, on a built graph.
 #![tactic(auto)]
 
-ghost use Rattle.std.specs.Prelude.{◌≡◌, cond, eqb, ltb, ◌+◌, ◌*◌, ◌<◌, ◌≤◌, length};
-ghost use Rattle.nodes.specs.Graph.{NODES};
-ghost use Rattle.nodes.specs.Columns.{GRAPH_WORDS, graph_in};
+ghost use Rattle.std.specs.Prelude.{◌≡◌, ◌+◌, ◌*◌, ◌<◌, ◌≤◌, cond, ltb, Err, length};
+ghost use Rattle.book.specs.Refusals.{code, number_of};
+ghost use Rattle.connect.specs.Turns.{turns_to};
+ghost use Rattle.fixed.specs.Up.{ups};
+ghost use Rattle.net.specs.Nets.{refused, branch_at, connect_net};
+ghost use Rattle.net.specs.Lent.{made_of, left_of, Searchable};
+ghost use Rattle.nodes.specs.Columns.{graph_of};
+ghost use Rattle.path_finding.specs.Lent.{graph_in, Kept};
 ghost use Rattle.path_finding.specs.Places.{known_to};
-ghost use Rattle.wire.specs.Wires.{vertices_in, vertices_out};
-ghost use Rattle.net.specs.Nets.{END_WORDS, net, connect_net, branched_in, branched_out};
-ghost use Rattle.net.specs.Lent.{Searching, Page, Bounds};
-ghost use Rattle.connect.specs.Turns.{turn_at, turns_to};
+ghost use Rattle.routing.specs.Lent.{KeptRows};
+ghost use Rattle.wire.specs.Ends.{ENDS};
+ghost use Rattle.wire.specs.Lent.{wires_of, xs_of, ys_of, KeptWires};
+ghost use Rattle.wire.specs.Wires.{vertices};
 
-use net::{Done, Made};
+use book::Refusal;
+use nodes::Graph;
+use path_finding::Finder;
+use routing::Joins;
+use wire::{Place, Wires};
 
-// The turn k of a net of which that is made: its root wire first, then its endpoints in order.
-fn turn_at(
-    nodes: &[i32],
-    n: usize,
-    px: &[u32],
-    py: &[u32],
+// The branch of the endpoint i: none if it is one of the root pair a and b.
+fn branch_at(
+    finder: &mut Finder,
+    points: &[Place],
     a: usize,
     b: usize,
-    k: usize,
-    made: Made,
-    x: &mut [i32],
-    y: &mut [i32],
-    letters: &mut [u8],
-    rows: &mut [u32],
-    joins: &mut [u32],
-    cells: &mut [u64],
-    tree: &mut [u64],
-    list: &mut [u32],
-) -> Made
-    requires searching { Searching n nodes.now cells.old tree.old list.old }
-    requires page { Page (length x.old) (length y.old) (length letters.old) (length rows.old) }
-    requires a_in_bounds { (a < length px.now) × (b < length px.now) × (length px.now ≤ 256) × (length py.now ≡ length px.now) × (768 ≤ length joins.old) }
-    requires k_in_bounds { (k < length px.now + 1) × (k ≡ 0 → (made.n ≤ 512) × (made.m ≡ 0)) × (0 < k → made.number ≡ 0 → Bounds made.n made.m made.j) }
-    ensures { branched_out result.number x.new y.new letters.new result.n rows.new result.m joins.new result.j ≡ turn_at (graph_in n nodes.now) px.now py.now a b k (branched_in made.number x.old y.old letters.old made.n rows.old made.m joins.old made.j) }
+    i: usize,
+    wires: &mut Wires,
+    joins: &mut Joins,
+) -> Result<(), Refusal>
+    requires searchable { Searchable finder.old }
+    requires i_bound { i < length points.now }
+    requires room { (0 < wires.old.m) × (joins.old.j < 256) }
+    ensures value { made_of (number_of result) wires.new joins.new ≡ branch_at (graph_in finder.old) (xs_of points.now) (ys_of points.now) a b i (made_of 0 wires.old joins.old) }
+    ensures kept_wires { KeptWires wires.old wires.new }
+    ensures kept_rows { KeptRows joins.old joins.new }
+    ensures kept { Kept finder.old finder.new }
 {
-    if k == 0 {
-        let t = net::root_at(
-            nodes, n, px, py, a, b, x, y, letters, made.n, rows, cells, tree, list,
-        );
-        return Made {
-            number: t.number,
-            n: t.n,
-            m: t.m,
-            j: made.j,
-        };
+    if (i == a) | (i == b) {
+        return Ok(());
     }
-    net::branch_at(
-        nodes,
-        n,
-        px,
-        py,
-        a,
-        b,
-        k - 1,
-        made,
-        x,
-        y,
-        letters,
-        rows,
-        joins,
-        cells,
-        tree,
-        list,
-    )
+    net::branch(finder, wires, joins, points[i])
 }
 
-// All turns of a net.
-fn turns(
-    nodes: &[i32],
-    n: usize,
-    px: &[u32],
-    py: &[u32],
+// The root wire from the endpoint a to the endpoint b, then a branch from each other endpoint, until a wire is refused.
+fn route_net(
+    finder: &mut Finder,
+    points: &[Place],
     a: usize,
     b: usize,
-    x: &mut [i32],
-    y: &mut [i32],
-    letters: &mut [u8],
-    count: usize,
-    rows: &mut [u32],
-    joins: &mut [u32],
+    wires: &mut Wires,
+    joins: &mut Joins,
+) -> Result<(), Refusal>
+    requires searchable { Searchable finder.old }
+    requires in_bounds { (a < length points.now) × (b < length points.now) × (length points.now ≤ 256) }
+    requires fresh { (wires.old.m ≡ 0) × (2 * joins.old.j ≤ wires.old.n) }
+    ensures value { made_of (number_of result) wires.new joins.new ≡ turns_to (graph_in finder.old) (xs_of points.now) (ys_of points.now) a b (length points.now + 1) (made_of 0 wires.old joins.old) }
+    ensures kept_wires { KeptWires wires.old wires.new }
+    ensures kept_rows { KeptRows joins.old joins.new }
+    ensures kept { Kept finder.old finder.new }
+{
+    net::root(finder, wires, points[a], points[b])?;
+    for i in 0..points.len() {
+        branch_at(finder, points, a, b, i, wires, joins)?;
+    }
+    Ok(())
+}
+
+// Whether a net has two endpoints, and each is a node.
+fn prior(graph: &Graph, points: &[Place]) -> Result<(), Refusal>
+    ensures { number_of result ≡ cond (ltb (length points.now) 2) 12 (cond (known_to (graph_of graph.now) (xs_of points.now) (ys_of points.now) (length points.now)) 0 13) }
+{
+    if points.len() < 2 {
+        return Err(Refusal::NotEnoughEndpoints);
+    }
+    if !net::are_nodes(graph, points) {
+        return Err(Refusal::InvalidPoint);
+    }
+    Ok(())
+}
+
+// Back to n vertices and j junctions, with zeros behind them: a refused net has none.
+fn refuse(
+    n: usize,
     j: usize,
-    cells: &mut [u64],
-    tree: &mut [u64],
-    list: &mut [u32],
-) -> Made
-    requires searching { Searching n nodes.now cells.old tree.old list.old }
-    requires page { Page (length x.old) (length y.old) (length letters.old) (length rows.old) }
-    requires a_in_bounds { (a < length px.now) × (b < length px.now) × (length px.now ≤ 256) × (length py.now ≡ length px.now) × (count ≤ 512) × (2 * j ≤ count) × (768 ≤ length joins.old) }
-    ensures { branched_out result.number x.new y.new letters.new result.n rows.new result.m joins.new result.j ≡ turns_to (graph_in n nodes.now) px.now py.now a b (length px.now + 1) (branched_in 0 x.old y.old letters.old count rows.old 0 joins.old j) }
+    wires: &mut Wires,
+    joins: &mut Joins,
+    refusal: Refusal,
+) -> Result<(), Refusal>
+    requires { (n ≤ 512) × (j ≤ 256) }
+    ensures value { left_of (code refusal) wires.new joins.new ≡ refused (code refusal) (vertices (ups wires.old.x.now) (ups wires.old.y.now) wires.old.letters.now n) joins.old.rows.now j }
+    ensures kept_wires { KeptWires wires.old wires.new }
+    ensures kept_rows { KeptRows joins.old joins.new }
+    ensures told { result ≡ Err refusal }
 {
-    let mut made = Made {
-        number: 0,
-        n: count,
-        m: 0,
-        j,
-    };
-    let mut k: usize = 0;
-    while k < px.len() + 1 {
-        made = turn_at(
-            nodes, n, px, py, a, b, k, made, x, y, letters, rows, joins, cells, tree, list,
-        );
-        k += 1;
-    }
-    made
+    zeros::close(wires.x, n, 0);
+    zeros::close(wires.y, n, 0);
+    zeros::close(wires.letters, n, 0);
+    wires.n = n;
+    zeros::close(joins.rows, 3 * j, 0);
+    joins.j = j;
+    Err(refusal)
 }
 
-// 12 if the net has under two endpoints, 13 if one of them is no node, else 0.
-fn prior(nodes: &[i32], n: usize, px: &[u32], py: &[u32]) -> u32
-    requires { (n ≤ NODES) × (GRAPH_WORDS ≤ length nodes.now) × (length py.now ≡ length px.now) }
-    ensures { result ≡ cond (ltb (length px.now) 2) 12 (cond (known_to (graph_in n nodes.now) px.now py.now (length px.now)) 0 13) }
-{
-    if px.len() < 2 {
-        return 12;
-    }
-    if net::are_nodes(nodes, n, px, py) {
-        return 0;
-    }
-    13
-}
-
-// Routes one net: its endpoints are px and py, and the page has `count` vertices and j junctions of earlier nets.
+// Routes one net behind the vertices and junctions of earlier nets.
 pub fn connect_net(
-    nodes: &[i32],
-    n: usize,
-    px: &[u32],
-    py: &[u32],
-    x: &mut [i32],
-    y: &mut [i32],
-    letters: &mut [u8],
-    count: usize,
-    joins: &mut [u32],
-    j: usize,
-    rows: &mut [u32],
-    cells: &mut [u64],
-    tree: &mut [u64],
-    list: &mut [u32],
-) -> Done
-    requires searching { Searching n nodes.now cells.old tree.old list.old }
-    requires px_len_bound { (length px.now ≤ 256) × (length py.now ≡ length px.now) }
-    requires in_bounds { (512 ≤ length x.old) × (512 ≤ length y.old) × (512 ≤ length letters.old) × (768 ≤ length joins.old) × (count ≤ 512) × (2 * j ≤ count) }
-    requires rows_len { length rows.old ≡ END_WORDS }
-    ensures { net result.number (vertices_out x.new y.new letters.new result.n) joins.new result.j ≡ connect_net (graph_in n nodes.now) px.now py.now (vertices_in x.old y.old letters.old count) joins.old j }
+    finder: &mut Finder,
+    points: &[Place],
+    wires: &mut Wires,
+    joins: &mut Joins,
+) -> Result<(), Refusal>
+    requires searchable { Searchable finder.old }
+    requires few { length points.now ≤ 256 }
+    requires long { length wires.old.ends.now ≡ ENDS }
+    requires fit { 2 * joins.old.j ≤ wires.old.n }
+    ensures value { left_of (number_of result) wires.new joins.new ≡ connect_net (graph_in finder.old) (xs_of points.now) (ys_of points.now) (wires_of wires.old).page joins.old.rows.now joins.old.j }
+    ensures kept_wires { KeptWires wires.old wires.new }
+    ensures kept_rows { KeptRows joins.old joins.new }
+    ensures kept { Kept finder.old finder.new }
 {
-    let number = prior(nodes, n, px, py);
-    if number != 0 {
-        return net::refuse(number, x, y, letters, count, joins, j);
+    let n = wires.n;
+    let j = joins.j;
+    if let Err(early) = prior(finder.graph, points) {
+        return refuse(n, j, wires, joins, early);
     }
-    let p = routing::pick_root_path(px, py);
-    let a = p / px.len();
-    let b = p % px.len();
-    let t = turns(
-        nodes, n, px, py, a, b, x, y, letters, count, rows, joins, j, cells, tree, list,
-    );
-    if t.number != 0 {
-        return net::refuse(t.number, x, y, letters, count, joins, j);
+    let (a, b) = routing::pick_root_path(points);
+    wires.m = 0;
+    if let Err(late) = route_net(finder, points, a, b, wires, joins) {
+        return refuse(n, j, wires, joins, late);
     }
-    Done {
-        number: t.number,
-        n: t.n,
-        j: t.j,
-    }
+    Ok(())
 }

@@ -1,12 +1,9 @@
 -- 01, 'Limits': the sizes that 64 boxes and 2,048 implicit anchors give.
 use Rattle.std.specs.Prelude.{ℕ}
 
--- the edges of the boxes on one axis, and the cells between neighbours
+-- the edges of the boxes on one axis
 abbrev pub EDGES : ℕ
 EDGES = 128
-
-abbrev pub CELLS : ℕ
-CELLS = 127
 
 -- the empty runs of a row: at most one for two cells
 abbrev pub RUNS : ℕ

@@ -1,19 +1,19 @@
 // Corridors between padded boxes: the implicit anchors.
 #![tactic(auto)]
 
-ghost use Rattle.std.specs.Prelude.{◌≡◌, ◌+◌, ◌-◌, ◌<◌, ◌≤◌, length, get_or, take, ◌++◌, [], ◌∷◌};
+ghost use Rattle.std.specs.Prelude.{◌≡◌, ◌+◌, ◌-◌, ◌<◌, ◌≤◌, length, get_or, take, drop, ◌++◌, [], ◌∷◌};
 ghost use Rattle.fixed.specs.Constants.{BOXES};
 ghost use Rattle.fixed.specs.Steps.{middle};
 ghost use Rattle.fixed.specs.Boxes.{across};
 ghost use Rattle.corridors.specs.Sizes.{EDGES, ANCHORS};
 ghost use Rattle.corridors.specs.Grid.{seen, stacked, all_runs};
-ghost use Rattle.corridors.specs.Merge.{take_out, fold, corridor, row_corridors, corridors, anchors as implicit_anchors};
+ghost use Rattle.corridors.specs.Merge.{take_out, fold, corridor, row_corridors, corridors, anchors as anchors_of};
 ghost use Rattle.corridors.specs.Answer.{Inside, Bounded, Answered};
 ghost use Rattle.corridors.specs.Lent.{run, table, taken, MarkedSpan, MarkedRow, anchor, alongs, plan, Emitted, Laid};
 
 mod row;
 
-use fixed::{Anchor, Axis, PaddedBox};
+use fixed::{Anchor, Axis, PaddedBox, get_or};
 use row::{CELLS, Row, Run};
 
 // The most edges of the boxes on an axis.
@@ -53,13 +53,6 @@ fn take_out(rows: &mut [Row], v: Run, from: usize) -> usize
     rows.len()
 }
 
-// The coordinate i, or 0 off the list.
-fn coord(xs: &[u32], i: usize) -> u32
-    ensures { result ≡ get_or xs.now i 0 }
-{
-    xs.get(i).copied().unwrap_or(0)
-}
-
 // An anchor of a run along an axis: u along, w across.
 fn anchor(along: Axis, u: u32, w: u32) -> Anchor
     ensures { result ≡ anchor along u w }
@@ -81,7 +74,7 @@ fn anchor(along: Axis, u: u32, w: u32) -> Anchor
 }
 
 // Padded boxes, and the cells between their sorted distinct edges along an axis and across it. No heap: anchors lie in the caller's list, their count beside it.
-#[derive(Clone, Copy)]
+#[derive(Clone, Copy, Debug, PartialEq, Eq)]
 struct Grid<'a> {
     boxes: &'a [PaddedBox],
     along: Axis,
@@ -136,9 +129,9 @@ impl Grid<'_> {
         if ANCHORS < made + 2 {
             return None;
         }
-        let lo = coord(self.xs, v.start as usize) + 1;
-        let hi = coord(self.xs, v.end as usize).saturating_sub(1);
-        let mid = fixed::middle(coord(self.ys, i), coord(self.ys, top));
+        let lo = get_or(self.xs, v.start as usize, 0) + fixed::EPSILON;
+        let hi = get_or(self.xs, v.end as usize, 0).saturating_sub(fixed::EPSILON);
+        let mid = fixed::middle(get_or(self.ys, i, 0), get_or(self.ys, top, 0));
         anchors[made] = anchor(self.along, lo, mid);
         anchors[made + 1] = anchor(self.along, hi, mid);
         Some(made + 2)
@@ -188,12 +181,12 @@ impl Grid<'_> {
     }
 }
 
-// The implicit anchors between padded boxes, in the first places of `anchors`: their count, or none if there are more than ANCHORS.
-pub fn generate_implicit_anchors(boxes: &[PaddedBox], anchors: &mut [Anchor]) -> Option<usize>
+// The anchors of the corridors along x, then of those along y: their count, or none if there are more than ANCHORS.
+fn implicit_anchors(boxes: &[PaddedBox], anchors: &mut [Anchor]) -> Option<usize>
     requires boxes_bound { length boxes.now ≤ BOXES }
     requires room { ANCHORS ≤ length anchors.old }
     requires edges_bound { Bounded boxes.now }
-    ensures { Answered result anchors.new (implicit_anchors (stacked boxes.now)) }
+    ensures { Answered result anchors.new (anchors_of (stacked boxes.now)) }
 {
     let mut xs = [0; EDGES];
     let mut ys = [0; EDGES];
@@ -215,4 +208,15 @@ pub fn generate_implicit_anchors(boxes: &[PaddedBox], anchors: &mut [Anchor]) ->
     let mut rows = [Row::EMPTY; CELLS];
     let level = level_grid.corridors(&mut rows[..ny.saturating_sub(1)], anchors, 0)?;
     upright_grid.corridors(&mut rows[..nx.saturating_sub(1)], anchors, level)
+}
+
+// The implicit anchors between padded boxes, in the first places of `anchors`: their count, or none if there are more than ANCHORS.
+pub fn generate_implicit_anchors(boxes: &[PaddedBox], anchors: &mut [Anchor]) -> Option<usize>
+    requires boxes_bound { length boxes.now ≤ BOXES }
+    requires room { ANCHORS ≤ length anchors.old }
+    requires edges_bound { Bounded boxes.now }
+    ensures value { Answered result anchors.new (anchors_of (stacked boxes.now)) }
+    ensures behind { drop ANCHORS anchors.new ≡ drop ANCHORS anchors.old }
+{
+    implicit_anchors(boxes, &mut anchors[..ANCHORS])
 }

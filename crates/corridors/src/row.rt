@@ -17,7 +17,7 @@ pub struct Run {
 }
 
 // The first `count` are the runs of a row. No heap: an array and a count.
-#[derive(Clone, Copy)]
+#[derive(Clone, Copy, Debug, PartialEq, Eq)]
 pub struct Row {
     pub count: usize,
     pub runs: [Run; RUNS],

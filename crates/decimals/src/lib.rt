@@ -2,7 +2,7 @@
 #![tactic(auto)]
 
 ghost use Rattle.std.specs.Prelude.{◌≡◌, ◌+◌, ◌-◌, ◌*◌, ◌≤◌, ◌<◌, [], ◌∷◌, length, drop};
-ghost use Rattle.decimals.specs.Bytes.{place, same};
+ghost use Rattle.decimals.specs.Bytes.{place};
 ghost use Rattle.decimals.specs.Decimal.{BASE, amount_of, cap, number_of, summed};
 ghost use Rattle.decimals.specs.Write.{Put, digits, field, signed};
 
@@ -14,7 +14,8 @@ const MINUS: u8 = b'-';
 
 const ZERO: u8 = b'0';
 
-const BIAS: u32 = 2147483648;
+// 2^31, above which a coordinate is counted.
+pub const BIAS: u32 = 2147483648;
 
 // What a number's word stands above: the word of 0.
 pub const BASE: u64 = 4294967296;
@@ -26,14 +27,6 @@ pub fn find(s: &[u8], from: usize, key: u8) -> usize
 {
     let rest = &s[from..];
     from + rest.iter().position(|b| *b == key).unwrap_or(rest.len())
-}
-
-// Whether two slices hold the same bytes.
-#[tactic(auto, unfolding(crate::specs::Bytes::same))]
-pub fn same_bytes(a: &[u8], b: &[u8]) -> bool
-    ensures { result ≡ same a.now b.now }
-{
-    a == b
 }
 
 // One digit more.
@@ -89,7 +82,7 @@ pub fn read_number(f: &[u8]) -> Option<u64>
 
 // The writers below take a place and return the one behind: a struct of the buffer and its place would need a clause on the lent buffer's name in each.
 
-// How many digits `v` has.
+// How many digits `v` has. Here and below a number loses a digit each turn: no range counts so.
 #[tactic(auto, using(crate::proofs::Written::widths))]
 fn width(v: u32) -> usize
     ensures { result ≡ length (digits v) }

@@ -8,6 +8,8 @@ use lib.ListN.{length, get_or, take, drop, set, replicate}
 use lib.Seq
 use lib.Dec.{eqb, leb}
 use borrow.Author.Tests.{leb-true, le-leb, lt-leb, eq-eqb, ne_eqb}
+use Rattle.std.proofs.Common.{Result}
+use Rattle.std.specs.Result.{IsErrAnd}
 use Rattle.rows.specs.Rows.{pasted, part, with_part, count}
 use Rattle.rows.proofs.Rows
 use Rattle.book.specs.Sizes.{COPIES}
@@ -15,6 +17,9 @@ use Rattle.block.specs.Sizes.{BLOCK}
 use Rattle.desk.specs.Sizes.{DESK, NEXT, ENTRY, LATER}
 use Rattle.book.specs.Book.{Record, width, spot, room_number, answer, take_number, leave_number, ok_lists, valid}
 use Rattle.book.specs.Entries.{before}
+use Rattle.book.specs.Refusals.{code, number_of}
+use Rattle.book.specs.declared.Refusal.{Refusal}
+use Rattle.book.proofs.Refusals.{passed, refused}
 use Rattle.desk.specs.Desk.{Sound, book_of, block, with_block, taken, at0, sized, laid, latest, unlaid, tag, KINDS, entry_of, out_words, back_words}
 use Rattle.block.specs.Block.{Counted, start, area, list_of, lists_of, with_row, without_row, block_before}
 use Rattle.book.specs.declared.Kind.{Kind}
@@ -107,6 +112,19 @@ module _ (ws : List ℕ) (d : ℕ) (ed : d ≡ sized ws (answer (valid (book_of 
       says-0 ha w ew =
           let e : 0 ≡ it = sym ha ∙ sym passes in
           (e, rw (← e) ew)
+
+-- ---- what follows from the test that is passed, and what a call answers that hands a refusal on: the test's, or that of a later test
+pub sound-ok : {ws : List ℕ} → 0 ≡ sized ws (answer (valid (book_of ws)) 0 0) → Sound ws
+sound-ok {ws} z = sound-at ws 0 z refl
+
+module _ {R : Type 0} {ws : List ℕ} (r : Result R Refusal) (e : Refusal) (h : IsErrAnd r (λ y. y ≡ e)) where
+  pub turned : code e ≡ sized ws (answer (valid (book_of ws)) 0 0) → (after : List ℕ) (f n : ℕ)
+      → (number_of r ≡ sized ws (answer (valid (book_of ws)) f n)) × (ws ≡ at0 (sized ws (answer (valid (book_of ws)) f n)) after ws)
+  turned d after f n = let both = says-d ws (code e) d after f n (refused e) in (passed r e h ∙ both.0, both.1)
+
+  pub turned-late : 0 ≡ sized ws (answer (valid (book_of ws)) 0 0) → (after : List ℕ) (f n : ℕ) → code e ≡ answer true f n
+      → (number_of r ≡ sized ws (answer (valid (book_of ws)) f n)) × (ws ≡ at0 (sized ws (answer (valid (book_of ws)) f n)) after ws)
+  turned-late z after f n d = let both = says-n ws 0 z after f n refl (code e) d (refused e) in (passed r e h ∙ both.0, both.1)
 
 -- ---- a sound desk's block now
 module _ (ws : List ℕ) (s : Sound ws) where

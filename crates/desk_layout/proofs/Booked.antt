@@ -9,7 +9,8 @@ use Rattle.book.specs.Book.{Seen}
 use Rattle.desk.specs.Desk.{seen_of}
 use Rattle.desk.proofs.Longer.{lent_by}
 use Rattle.page_layout.specs.Drawing.{Drawing}
-use Rattle.desk_layout.specs.Layout.{Choice, roomy, is_lent, left, tested, says, shows, desk_number, desk_drawing}
+use Rattle.desk_layout.specs.declared.Choice.{Choice}
+use Rattle.desk_layout.specs.Layout.{roomy, is_lent, left, tested, says, shows, desk_number, desk_drawing}
 
 -- ---- the first n words of a desk
 module _ (ws : List ℕ) (n : ℕ) (long : DESK ≤ length ws) (d : Drawing) (q : Choice) where

@@ -1,10 +1,10 @@
 -- A layout as a call: what its answer and its outputs are at each return.
 use mathlib.Core.Path.{◌≡◌, refl, sym, ap, ◌∙◌}
 use mathlib.Core.List.{List}
-use mathlib.Core.Bool.{Bool, true, false, not, ◌&&◌}
+use mathlib.Core.Bool.{Bool, true, false, ◌&&◌}
 use Prim.Native.Nat.{ℕ, ◌≤◌}
-use borrow.Author.Tests.{leb-true, not-true, not-false}
-use lib.Dec.{leb, eqb}
+use borrow.Author.Tests.{leb-true}
+use lib.Dec.{leb}
 use lib.IntN.{ℤ}
 use lib.ListN.{length}
 use Rattle.fixed.proofs.Bools.{and_left, and_right}
@@ -22,7 +22,8 @@ use Rattle.desk.proofs.Whole.{sound-at, unsound-at}
 use Rattle.select.specs.Page.{page_of}
 use Rattle.select.proofs.Ok.{few_nets, few-ends}
 use Rattle.select.proofs.Asked.{asked, placed}
-use Rattle.desk_layout.specs.Layout.{Choice, choice, ok_choice, layout_number, zeros, left, is_lent, tested, says, shows, desk_number, desk_drawing}
+use Rattle.desk_layout.specs.declared.Choice.{Choice}
+use Rattle.desk_layout.specs.Layout.{is_pruned, is_apart, ok_choice, layout_number, zeros, left, is_lent, tested, says, shows, desk_number, desk_drawing}
 use Rattle.desk_layout.proofs.Outputs.{laid-left}
 
 -- ---- 1
@@ -31,10 +32,14 @@ module _ (ws : List ℕ) (d : Drawing) (q : Choice) where
   unfolding says shows
   says-1 e = rw e (refl, refl)
 
-  says_on : is_lent (length ws) d ≡ true → (r : ℕ) (p : Drawing) → r ≡ tested (seen_of ws) q → p ≡ left r (book_of ws).lists q d
-      → (r ≡ desk_number ws d q) × (p ≡ desk_drawing ws d q)
-  unfolding says shows
-  says_on e r p er ep = rw e (er, ep ∙ ap (λ (n : ℕ). left n (book_of ws).lists q d) er)
+  module _ (e : is_lent (length ws) d ≡ true) (r : ℕ) (er : r ≡ tested (seen_of ws) q) where
+    number_on : r ≡ desk_number ws d q
+    unfolding says
+    number_on = rw e er
+
+    drawing_on : (p : Drawing) → p ≡ left r (book_of ws).lists q d → p ≡ desk_drawing ws d q
+    unfolding shows
+    drawing_on p ep = rw e (ep ∙ ap (λ (n : ℕ). left n (book_of ws).lists q d) er)
 
 -- ---- 2
 module _ (s : Seen) (q : Choice) (d : Drawing) where
@@ -56,19 +61,13 @@ module _ (l : Lists) (r : Records) (page : r ≡ page_of l) where
   unfolding layout_number
   page-number n e = e ∙ ap page_number page
 
-  page-left : (q : Choice) (d p : Drawing) (n : ℕ) → n ≡ page_number r → p ≡ laid r (eqb q.prune 1) (eqb q.separate 1) d → p ≡ left n l q d
+  page-left : (q : Choice) (d p : Drawing) (n : ℕ) → n ≡ page_number r → p ≡ laid r (is_pruned q) (is_apart q) d → p ≡ left n l q d
   page-left q d p n en ep = ep ∙ rw page (laid-left l q d n (page-number n en))
 
 -- ---- at each return, over what is lent
-module _ (ws : List ℕ) (prune separate : ℕ) (nets : List ℕ) (x y : List ℤ) (kinds joins : List ℕ) where
-  abbrev Q : Choice
-  Q = choice prune separate
-
+module _ (ws : List ℕ) (Q : Choice) (nets : List ℕ) (x y : List ℤ) (kinds joins : List ℕ) where
   abbrev D : Drawing
   D = drawing nets x y kinds joins
-
-  abbrev Roomy : Type 0
-  Roomy = (320 ≤ length nets) × (512 ≤ length x) × (512 ≤ length y) × (512 ≤ length kinds) × (768 ≤ length joins)
 
   module _ (b : Bool)
       (eb : b ≡ leb DESK (length ws) && (leb 320 (length nets) && ((leb 512 (length x) && leb 512 (length y)) && (leb 512 (length kinds) && leb 768 (length joins)))))
@@ -77,40 +76,43 @@ module _ (ws : List ℕ) (prune separate : ℕ) (nets : List ℕ) (x y : List �
       unfolding is_lent
       lent_is = rw (length-ups x, length-ups y) eb
 
-      pub sizes-1 : not b ≡ true → (1 ≡ desk_number ws D Q) × (D ≡ desk_drawing ws D Q)
-      sizes-1 t = says-1 ws D Q (sym lent_is ∙ not-true b t)
+      pub sizes-1 : b ≡ false → (1 ≡ desk_number ws D Q) × (D ≡ desk_drawing ws D Q)
+      sizes-1 t = says-1 ws D Q (sym lent_is ∙ t)
 
-      pub sizes-fit : not b ≡ false → (DESK ≤ length ws) × Roomy
+      pub sizes-fit : b ≡ true → (DESK ≤ length ws) × ((320 ≤ length nets) × (512 ≤ length x) × (512 ≤ length y) × (512 ≤ length kinds) × (768 ≤ length joins))
       sizes-fit t =
-          let all = sym eb ∙ not-false b t in
+          let all = sym eb ∙ t in
           let lists = and_right (leb DESK (length ws)) _ all in
           let rest = and_right (leb 320 (length nets)) _ lists in
           let places = and_left (leb 512 (length x) && leb 512 (length y)) _ rest in
           let others = and_right (leb 512 (length x) && leb 512 (length y)) _ rest in
           (leb-true _ _ (and_left (leb DESK (length ws)) _ all), (leb-true _ _ (and_left (leb 320 (length nets)) _ lists), leb-true _ _ (and_left (leb 512 (length x)) _ places), leb-true _ _ (and_right (leb 512 (length x)) _ places), leb-true _ _ (and_left (leb 512 (length kinds)) _ others), leb-true _ _ (and_right (leb 512 (length kinds)) _ others)))
 
-      pub sizes-on : not b ≡ false → (r : ℕ) (p : Drawing) → (r ≡ tested (seen_of ws) Q) × (p ≡ left r (book_of ws).lists Q D)
-          → (r ≡ desk_number ws D Q) × (p ≡ desk_drawing ws D Q)
-      sizes-on t r p (er, ep) = says_on ws D Q (sym lent_is ∙ not-false b t) r p er ep
+      module _ (t : b ≡ true) (r : ℕ) (er : r ≡ tested (seen_of ws) Q) where
+        pub sizes-number : r ≡ desk_number ws D Q
+        sizes-number = number_on ws D Q (sym lent_is ∙ t) r er
 
+        pub sizes-lists : (p : Drawing) → p ≡ left r (book_of ws).lists Q D → p ≡ desk_drawing ws D Q
+        sizes-lists p ep = drawing_on ws D Q (sym lent_is ∙ t) r er p ep
+
+module _ (ws : List ℕ) (Q : Choice) (D : Drawing) where
   module _ (n : ℕ) (long : DESK ≤ length ws) (is : n ≡ sized ws (answer (valid (book_of ws)) 0 0)) where
     pub lent-2 : (n ≡ 0 → ⊥) → (p : Drawing) → p ≡ zeros D → (2 ≡ tested (seen_of ws) Q) × (p ≡ left 2 (book_of ws).lists Q D)
     lent-2 z p ep = refused-desk (seen_of ws) Q D (unsound-at ws n is long z) p ep
 
-    module _ (z : n ≡ 0) (b : Bool) (eb : b ≡ ok_choice Q) where
-      pub lent-2c : not b ≡ true → (p : Drawing) → p ≡ zeros D → (2 ≡ tested (seen_of ws) Q) × (p ≡ left 2 (book_of ws).lists Q D)
-      lent-2c t p ep = refused-choice (seen_of ws) Q D (sound-at ws n is z).book (sym eb ∙ not-true b t) p ep
+    module _ (z : n ≡ 0) where
+      pub lent-2c : ok_choice Q ≡ false → (p : Drawing) → p ≡ zeros D → (2 ≡ tested (seen_of ws) Q) × (p ≡ left 2 (book_of ws).lists Q D)
+      lent-2c e p ep = refused-choice (seen_of ws) Q D (sound-at ws n is z).book e p ep
 
-      pub lent-on : not b ≡ false → (r : ℕ) (p : Drawing) → (r ≡ layout_number (book_of ws).lists) × (p ≡ left r (book_of ws).lists Q D)
-          → (r ≡ tested (seen_of ws) Q) × (p ≡ left r (book_of ws).lists Q D)
-      lent-on t r p (er, ep) = (passed (seen_of ws) Q D (sound-at ws n is z).book (sym eb ∙ not-false b t) r er, ep)
+      pub lent-on : ok_choice Q ≡ true → (r : ℕ) → r ≡ layout_number (book_of ws).lists → r ≡ tested (seen_of ws) Q
+      lent-on e r er = passed (seen_of ws) Q D (sound-at ws n is z).book e r er
 
   module _ (v : valid (book_of ws) ≡ true) (R : Records) (page : R ≡ page_of (book_of ws).lists) where
-    pub valid-asks : Roomy → Asked R × (Placed R × (Roomy × ((R.net_count ≤ 64) × (R.end_count ≤ 256))))
-    valid-asks room =
+    pub valid-asks : Asked R × (Placed R × ((R.net_count ≤ 64) × (R.end_count ≤ 256)))
+    valid-asks =
         let ok = lists-ok (book_of ws) v in
-        (rw page (asked (book_of ws).lists ok), (rw page (placed (book_of ws).lists ok), (room, (rw page (few_nets (book_of ws).lists ok), rw page (few-ends (book_of ws).lists ok)))))
+        (rw page (asked (book_of ws).lists ok), (rw page (placed (book_of ws).lists ok), (rw page (few_nets (book_of ws).lists ok), rw page (few-ends (book_of ws).lists ok))))
 
-    pub valid-on : (r : ℕ) (p : Drawing) → (r ≡ page_number R) × (p ≡ laid R (eqb prune 1) (eqb separate 1) D)
+    pub valid-on : (r : ℕ) (p : Drawing) → r ≡ page_number R → p ≡ laid R (is_pruned Q) (is_apart Q) D
         → (r ≡ layout_number (book_of ws).lists) × (p ≡ left r (book_of ws).lists Q D)
-    valid-on r p (e₁, e₂) = (page-number (book_of ws).lists _ page r e₁, page-left (book_of ws).lists _ page Q D p r e₁ e₂)
+    valid-on r p e₁ e₂ = (page-number (book_of ws).lists _ page r e₁, page-left (book_of ws).lists _ page Q D p r e₁ e₂)

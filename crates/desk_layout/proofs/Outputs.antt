@@ -18,7 +18,8 @@ use Rattle.layout.specs.Answer.{layout_page, layout_number as page_number}
 use Rattle.page_layout.specs.Drawing.{Drawing, drawing, lists_of, bare, laid}
 use Rattle.book.specs.Book.{Lists}
 use Rattle.select.specs.Page.{page_of}
-use Rattle.desk_layout.specs.Layout.{Choice, is_pruned, is_apart, layout_number, zeros, left}
+use Rattle.desk_layout.specs.declared.Choice.{Choice}
+use Rattle.desk_layout.specs.Layout.{is_pruned, is_apart, layout_number, zeros, left}
 
 pub no-drawing : (nets nets' : List ℕ) (x x' y y' : List ℤ) (kinds kinds' joins joins' : List ℕ)
     → page nets' (vertices (ups x') (ups y') kinds' 0) joins' 0 ≡ blank (length nets) (length x) (length y) (length kinds) (length joins)

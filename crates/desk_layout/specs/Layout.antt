@@ -1,21 +1,17 @@
 -- 01, 'Nets', 'Separation' and 'Numbers handed back': a layout on a desk. What it answers is a definition over the lists, the arguments and the lent sizes alone.
-use Rattle.std.specs.Prelude.{List, Bool, cond, ◌&&◌, ℕ, ◌*◌, eqb, leb, length, replicate}
+use Rattle.std.specs.Prelude.{List, Bool, cond, ◌&&◌, ℕ, eqb, leb, length, replicate}
 use Rattle.fixed.specs.Up.{BIAS}
 use Rattle.vertex.specs.Pages.{VERTICES}
-use Rattle.layout.specs.Layout.{NET_ROW}
+use Rattle.layout.specs.Layout.{NET_WORDS, JOIN_WORDS}
 use Rattle.layout.specs.Answer.{layout_number as page_number}
 use Rattle.page_layout.specs.Drawing.{Drawing, laid}
 use Rattle.desk.specs.Sizes.{DESK}
-use Rattle.book.specs.Sizes.{NETS}
 use Rattle.book.specs.Book.{Lists, Seen, ranged, answer}
 use Rattle.desk.specs.Desk.{seen_of}
 use Rattle.select.specs.Page.{page_of}
+use Rattle.desk_layout.specs.declared.Choice.{Choice}
 
 -- ---- 'search and layout build their graph from the desk, pruned or not as the caller says; layout separates or not likewise': 1 for yes, 0 for no
-pub record Choice : Type 0 where
-  pub prune : ℕ
-  pub separate : ℕ
-
 abbrev pub choice : ℕ → ℕ → Choice
 choice prune separate = record { prune = prune; separate = separate }
 
@@ -50,14 +46,6 @@ unfoldable pub left : ℕ → Lists → Choice → Drawing → Drawing
 left n l q d = cond (eqb n 0) (laid (page_of l) (is_pruned q) (is_apart q) d) (zeros d)
 
 -- ---- of a call that is lent `size` words of the desk
-
--- the rows of 64 nets
-abbrev pub NET_WORDS : ℕ
-NET_WORDS = NETS * NET_ROW
-
--- the rows of 256 junctions, three words each
-abbrev pub JOIN_WORDS : ℕ
-JOIN_WORDS = 768
 
 -- the lists have room for 64 nets, 512 vertices and 256 junctions
 abbrev pub roomy : Drawing → Bool

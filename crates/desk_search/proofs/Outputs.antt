@@ -4,17 +4,15 @@
 use mathlib.Core.Path.{◌≡◌, refl, ap, ◌∙◌}
 use mathlib.Core.List.{List, []}
 use mathlib.Core.Bool.{Bool, true, false, cond}
-use Prim.Native.Nat.{ℕ, zero, suc, ◌+◌, ◌-◌}
+use Prim.Native.Nat.{ℕ, zero, suc, ◌+◌}
 use native.Mathlib.Numerals.{add-one}
 use native.Mathlib.Omega.{arith}
 use borrow.Author.Tests.{le-ltb, ltb-true, ltb-false}
 use lib.Dec.{ltb, eqb}
-use lib.IntN.{ℤ}
 use lib.ListN.{length, replicate, replicate-append-replicate}
-use Rattle.fixed.specs.Up.{BIAS, ups}
-use Rattle.zeros.specs.Zeros.{closed}
+use Rattle.fixed.specs.Up.{BIAS}
 use Rattle.path_finding.specs.Line.{table, place_at, kind_at, direction_at, START, NORMAL, END, Written}
-use Rattle.desk_search.specs.Search.{Outputs, outputs, zeros}
+use Rattle.desk_search.specs.Search.{Outputs, zeros}
 
 constant : (f : ℕ → ℕ) (v : ℕ) → ((k : ℕ) → f k ≡ v) → (n : ℕ) → table f n ≡ replicate n v
 unfolding table
@@ -48,17 +46,6 @@ no_line cx cy links l xs ys kinds dirs o el a b c d w =
     let e₄ : dirs ≡ replicate (length o.dirs) 0 =
     w.direction_is ∙ rw (el, d) (constant (direction_at links []) 0 (no-direction links) (length o.dirs)) in
     rw (e₁, e₂, e₃, e₄)
-
--- zeros from the first entry on
-closed_all : (z : ℕ) (l : List ℕ) → closed z 0 l ≡ replicate (length l) z
-unfolding closed
-closed_all z l = let e : length l - 0 ≡ length l = omega arith in rw e
-
-pub no-line-lent : (lx lx' ly ly' : List ℤ) (kinds kinds' dirs dirs' : List ℕ) → ups lx' ≡ closed BIAS 0 (ups lx) → ups ly' ≡ closed BIAS 0 (ups ly)
-    → kinds' ≡ closed 0 0 kinds → dirs' ≡ closed 0 0 dirs → outputs lx' ly' kinds' dirs' ≡ zeros (outputs lx ly kinds dirs)
-unfolding zeros
-no-line-lent lx lx' ly ly' kinds kinds' dirs dirs' a b c d =
-    rw (a, b, c, d, closed_all BIAS (ups lx), closed_all BIAS (ups ly), closed_all 0 kinds, closed_all 0 dirs)
 
 -- of a line of m nodes
 pub end-alone : (m k : ℕ) → kind_at m k ≡ END → k + 1 ≡ m

@@ -1,11 +1,10 @@
 -- The tests of a search's arguments: the turns of the scan of its coordinates.
 use mathlib.Core.Path.{◌≡◌, sym, ◌∙◌}
 use mathlib.Core.List.{List, ◌∷◌}
-use mathlib.Core.Bool.{Bool, true, false, not, ◌&&◌}
+use mathlib.Core.Bool.{Bool, true, false, ◌&&◌}
 use Prim.Native.Nat.{ℕ, ◌+◌, ◌<◌, ◌≤◌}
 use native.Mathlib.Numerals.{add-one}
 use native.Mathlib.Omega.{arith}
-use borrow.Author.Tests.{not-true, not-false}
 use lib.Dec.{eqb, leb}
 use lib.IntN.{ℤ}
 use lib.ListN.{length, get_or, drop}
@@ -22,11 +21,11 @@ module _ (us : List ℤ) (i : ℕ) (so_far : scan ok_step (ups us) ≡ scan ok_s
     split : drop i (ups us) ≡ u ∷ drop (i + 1) (ups us)
     split = rw (eu, add-one i) (drop-cons (ups us) i 0 (omega (arith, length-ups us)))
 
-    pub steps-fail : not b ≡ true → false ≡ scan ok_step (ups us)
-    steps-fail e = fail ok_step (ups us) u i split so_far (sym (eb _) ∙ not-true b e)
+    pub steps-fail : b ≡ false → false ≡ scan ok_step (ups us)
+    steps-fail e = fail ok_step (ups us) u i split so_far (sym (eb _) ∙ e)
 
-    pub steps-pass : not b ≡ false → scan ok_step (ups us) ≡ scan ok_step (drop (i + 1) (ups us))
-    steps-pass e = pass ok_step (ups us) u i split so_far (sym (eb _) ∙ not-false b e)
+    pub steps-pass : b ≡ true → scan ok_step (ups us) ≡ scan ok_step (drop (i + 1) (ups us))
+    steps-pass e = pass ok_step (ups us) u i split so_far (sym (eb _) ∙ e)
 
   pub steps-done : length us ≤ i → true ≡ scan ok_step (ups us)
   steps-done h = done ok_step (ups us) i (omega (arith, length-ups us)) so_far

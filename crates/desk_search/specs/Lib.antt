@@ -1,3 +1,4 @@
 pub mod Query
 pub mod Search
 pub mod Exists
+pub mod Lent

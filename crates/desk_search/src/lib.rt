@@ -1,20 +1,36 @@
 // A search on a desk.
 #![tactic(auto)]
 
-ghost use Rattle.std.specs.Prelude.{◌≡◌, true, ◌&&◌, List, ℕ, ◌<◌, ◌≤◌, leb, length};
-ghost use Rattle.fixed.specs.Up.{up, ups};
+ghost use Rattle.std.specs.Prelude.{◌≡◌, true, List, ℕ, ◌≤◌, length};
+ghost use Rattle.fixed.specs.Up.{ups};
 ghost use Rattle.rows.specs.Rows.{scan};
-ghost use Rattle.nodes.specs.Graph.{NODES};
 ghost use Rattle.desk.specs.Sizes.{DESK};
 ghost use Rattle.book.specs.Book.{valid};
+ghost use Rattle.book.specs.Refusals.{number_of};
 ghost use Rattle.desk.specs.Desk.{book_of, seen_of};
-ghost use Rattle.desk_search.specs.Query.{query, ok_step, ok_ends, ok_query};
-ghost use Rattle.desk_search.specs.Search.{outputs, zeros, search_number, left, tested, desk_number, desk_outputs};
+ghost use Rattle.path_finding.specs.Lent.{KeptOutput};
+ghost use Rattle.desk_search.specs.Query.{ok_step, ok_ends, ok_query};
+ghost use Rattle.desk_search.specs.Search.{is_lent, search_number, left, tested, desk_number, desk_outputs};
+ghost use Rattle.desk_search.specs.Lent.{query_in, outputs_in};
+
+use book::Refusal;
+use path_finding::{Ends, Output};
 
 // The most ends of a search.
 pub const ENDS: usize = 4096;
 
+// What a search is asked: on the graph pruned (1) or not (0), from a place, counted from −2^31, to one of the ends, as they are lent.
+#[derive(Clone, Copy, Debug, PartialEq, Eq)]
+pub struct Request<'a> {
+    pub prune: u32,
+    pub x: u32,
+    pub y: u32,
+    pub end_x: &'a [i32],
+    pub end_y: &'a [i32],
+}
+
 // Whether a coordinate is a field.
+#[tactic(auto, unfolding(crate::specs::Query::ok_step))]
 fn ok_step(u: u32) -> bool
     ensures { (us : List ℕ) → result ≡ ok_step u us }
 {
@@ -24,12 +40,10 @@ fn ok_step(u: u32) -> bool
 fn ok_steps(us: &[i32]) -> bool
     ensures { result ≡ scan ok_step (ups us.now) }
 {
-    let mut i: usize = 0;
-    while i < us.len() {
+    for i in 0..us.len() {
         if !ok_step(fixed::at(us, i)) {
             return false;
         }
-        i += 1;
     }
     true
 }
@@ -42,132 +56,64 @@ fn ok_ends(ex: &[i32], ey: &[i32]) -> bool
     few & (ok_steps(ex) & ok_steps(ey))
 }
 
-// Whether the arguments of a search keep their ranges.
-fn ok_query(prune: u32, x: u32, y: u32, ex: &[i32], ey: &[i32]) -> bool
-    ensures { result ≡ ok_query (query prune x y ex.now ey.now) }
+// Whether what is asked keeps its ranges.
+fn ok_request(request: Request) -> bool
+    ensures { result ≡ ok_query (query_in request.entry) }
 {
-    ((prune <= 1) & (ok_step(x) & ok_step(y))) & ok_ends(ex, ey)
+    let start = ok_step(request.x) & ok_step(request.y);
+    ((request.prune <= 1) & start) & ok_ends(request.end_x, request.end_y)
 }
 
 // Whether all that is lent is long enough.
-fn is_lent(desk: usize, lx: usize, ly: usize, kinds: usize, dirs: usize) -> bool
-    ensures { result ≡ leb DESK desk && ((leb NODES lx && leb NODES ly) && (leb NODES kinds && leb NODES dirs)) }
+fn is_lent(desk: &[u32], output: &Output) -> bool
+    ensures { result ≡ is_lent (length desk.now) (outputs_in output.now) }
 {
-    let places = (nodes::NODES <= lx) & (nodes::NODES <= ly);
-    (desk::DESK <= desk) & (places & ((nodes::NODES <= kinds) & (nodes::NODES <= dirs)))
+    let places = (nodes::NODES <= output.x.len()) & (nodes::NODES <= output.y.len());
+    let ways = (nodes::NODES <= output.kinds.len()) & (nodes::NODES <= output.directions.len());
+    (desk::DESK <= desk.len()) & (places & ways)
 }
 
-// Zeros in all outputs.
-fn no_line(lx: &mut [i32], ly: &mut [i32], kinds: &mut [u8], dirs: &mut [u8])
-    ensures { outputs lx.new ly.new kinds.new dirs.new ≡ zeros (outputs lx.old ly.old kinds.old dirs.old) }
-{
-    zeros::close(lx, 0, 0);
-    zeros::close(ly, 0, 0);
-    zeros::close(kinds, 0, 0);
-    zeros::close(dirs, 0, 0);
-}
-
-// A search on a desk that is valid, with arguments that keep their ranges: 8, 9, 10, 11 or 0.
-fn search_valid(
-    desk: &[u32],
-    prune: u32,
-    x: u32,
-    y: u32,
-    ex: &[i32],
-    ey: &[i32],
-    lx: &mut [i32],
-    ly: &mut [i32],
-    kinds: &mut [u8],
-    dirs: &mut [u8],
-) -> u32
+// A search on a desk that is valid, with a request that keeps its ranges.
+fn search_valid(desk: &[u32], request: Request, output: &mut Output) -> Result<(), Refusal>
     requires in_bounds { DESK ≤ length desk.now }
     requires desk_value { valid (book_of desk.now) ≡ true }
-    requires ey_value { ok_query (query prune x y ex.now ey.now) ≡ true }
-    ensures value { result ≡ search_number (book_of desk.now).lists (query prune x y ex.now ey.now) }
-    ensures dirs_after { outputs lx.new ly.new kinds.new dirs.new ≡ left result (book_of desk.now).lists (query prune x y ex.now ey.now) (outputs lx.old ly.old kinds.old dirs.old) }
+    requires query_value { ok_query (query_in request) ≡ true }
+    ensures value { number_of result ≡ search_number (book_of desk.now).lists (query_in request.entry) }
+    ensures output_after { outputs_in output.new ≡ left (number_of result) (book_of desk.now).lists (query_in request.entry) (outputs_in output.old) }
+    ensures kept { KeptOutput output.old output.new }
 {
-    let mut nodes: [i32; nodes::GRAPH_WORDS] = [0; nodes::GRAPH_WORDS];
-    let graph = page_graph::graph_of(select::records(desk), prune == 1, &mut nodes);
-    page_search::search_on(&nodes, graph, x, y, ex, ey, lx, ly, kinds, dirs).number
+    let ends = Ends {
+        x: request.end_x,
+        y: request.end_y,
+    };
+    let pruned = request.prune == 1;
+    let records = select::records(desk);
+    page_search::search_page(records, pruned, request.x, request.y, ends, output)?;
+    Ok(())
 }
 
-// A search that is lent enough: 2, or the number of the search.
-fn search_lent(
-    desk: &[u32],
-    prune: u32,
-    x: u32,
-    y: u32,
-    ex: &[i32],
-    ey: &[i32],
-    lx: &mut [i32],
-    ly: &mut [i32],
-    kinds: &mut [u8],
-    dirs: &mut [u8],
-) -> u32
+// A search that is lent enough.
+fn search_lent(desk: &[u32], request: Request, output: &mut Output) -> Result<(), Refusal>
     requires { DESK ≤ length desk.now }
-    ensures value { result ≡ tested (seen_of desk.now) (query prune x y ex.now ey.now) }
-    ensures dirs_after { outputs lx.new ly.new kinds.new dirs.new ≡ left result (book_of desk.now).lists (query prune x y ex.now ey.now) (outputs lx.old ly.old kinds.old dirs.old) }
+    ensures value { number_of result ≡ tested (seen_of desk.now) (query_in request.entry) }
+    ensures output_after { outputs_in output.new ≡ left (number_of result) (book_of desk.now).lists (query_in request.entry) (outputs_in output.old) }
+    ensures kept { KeptOutput output.old output.new }
 {
-    if desk::validate(desk).is_err() {
-        no_line(lx, ly, kinds, dirs);
-        return 2;
+    if desk::validate(desk).is_err() || !ok_request(request) {
+        output.clear();
+        return Err(Refusal::OutOfRange);
     }
-    if !ok_query(prune, x, y, ex, ey) {
-        no_line(lx, ly, kinds, dirs);
-        return 2;
-    }
-    search_valid(desk, prune, x, y, ex, ey, lx, ly, kinds, dirs)
+    search_valid(desk, request, output)
 }
 
-// A search from a start that is counted from -2^31.
-fn search_steps(
-    desk: &[u32],
-    prune: u32,
-    x: u32,
-    y: u32,
-    ex: &[i32],
-    ey: &[i32],
-    lx: &mut [i32],
-    ly: &mut [i32],
-    kinds: &mut [u8],
-    dirs: &mut [u8],
-) -> u32
-    ensures value { result ≡ desk_number desk.now (outputs lx.old ly.old kinds.old dirs.old) (query prune x y ex.now ey.now) }
-    ensures dirs_after { outputs lx.new ly.new kinds.new dirs.new ≡ desk_outputs desk.now (outputs lx.old ly.old kinds.old dirs.old) (query prune x y ex.now ey.now) }
+// A search on a desk. The line's places, kinds (S, N, E) and directions are in the outputs, with zeros behind it; its last node alone has the kind E.
+pub fn search(desk: &[u32], request: Request, output: &mut Output) -> Result<(), Refusal>
+    ensures value { number_of result ≡ desk_number desk.now (outputs_in output.old) (query_in request.entry) }
+    ensures output_after { outputs_in output.new ≡ desk_outputs desk.now (outputs_in output.old) (query_in request.entry) }
+    ensures kept { KeptOutput output.old output.new }
 {
-    if !is_lent(desk.len(), lx.len(), ly.len(), kinds.len(), dirs.len()) {
-        return 1;
+    if !is_lent(desk, output) {
+        return Err(Refusal::TooShort);
     }
-    search_lent(desk, prune, x, y, ex, ey, lx, ly, kinds, dirs)
-}
-
-// A search on a desk from the place (x, y) to one of the ends (ex, ey), on the graph pruned (1) or not (0). The line's places, kinds (S, N, E) and directions
-// are in lx, ly, kinds and dirs, with zeros behind it; its last node alone has the kind E.
-pub fn search(
-    desk: &[u32],
-    prune: u32,
-    x: i32,
-    y: i32,
-    ex: &[i32],
-    ey: &[i32],
-    lx: &mut [i32],
-    ly: &mut [i32],
-    kinds: &mut [u8],
-    dirs: &mut [u8],
-) -> u32
-    ensures value { result ≡ desk_number desk.now (outputs lx.old ly.old kinds.old dirs.old) (query prune (up x) (up y) ex.now ey.now) }
-    ensures dirs_after { outputs lx.new ly.new kinds.new dirs.new ≡ desk_outputs desk.now (outputs lx.old ly.old kinds.old dirs.old) (query prune (up x) (up y) ex.now ey.now) }
-{
-    search_steps(
-        desk,
-        prune,
-        fixed::up(x),
-        fixed::up(y),
-        ex,
-        ey,
-        lx,
-        ly,
-        kinds,
-        dirs,
-    )
+    search_lent(desk, request, output)
 }

@@ -13,7 +13,8 @@ use Rattle.fixed.specs.Track.{track, moved}
 use Rattle.fixed.proofs.Bools.{clash as contrary}
 use Rattle.vertex.specs.Kinds.{start, end}
 use Rattle.vertex.specs.Pages.{holder, joiner, corner, kind_at, carried, Joined, Wired, Ended, Within}
-use Rattle.vertex.specs.declared.Junction.TheVariants.{None, Corner, LineSegment}
+use Rattle.std.specs.Prelude.{None, Some}
+use Rattle.vertex.specs.declared.JunctionKind.TheVariants.{Corner, LineSegment}
 use Rattle.vertex.specs.declared.VertexKind.{VertexKind}
 use Rattle.vertex.specs.declared.VertexKind.TheVariants.{WireStart, Dummy, Normal, WireEnd}
 use Rattle.tracks.specs.Movement.{movement}
@@ -160,8 +161,8 @@ first-moves (WireStart r) (WireStart q) h g = absurd (h refl)
 first-moves (WireStart r) Dummy h g = absurd (omega arith)
 first-moves (WireStart r) Normal h g = absurd (h refl)
 first-moves (WireStart r) (WireEnd None) h g = absurd (h refl)
-first-moves (WireStart r) (WireEnd Corner) h g = absurd (omega arith)
-first-moves (WireStart r) (WireEnd LineSegment) h g = absurd (h refl)
+first-moves (WireStart r) (WireEnd (Some Corner)) h g = absurd (omega arith)
+first-moves (WireStart r) (WireEnd (Some LineSegment)) h g = absurd (h refl)
 first-moves Dummy b h g = refl
 first-moves Normal b h g = refl
 first-moves (WireEnd j) b h g = absurd (omega arith)
@@ -177,8 +178,8 @@ second-moves (WireStart r) (WireEnd None) e h g = absurd (h refl)
 second-moves Dummy (WireEnd None) e h g = absurd (omega arith)
 second-moves Normal (WireEnd None) e h g = absurd (h refl)
 second-moves (WireEnd j) (WireEnd None) e h g = absurd (omega arith)
-second-moves a (WireEnd Corner) e h g = refl
-second-moves a (WireEnd LineSegment) e h g = refl
+second-moves a (WireEnd (Some Corner)) e h g = refl
+second-moves a (WireEnd (Some LineSegment)) e h g = refl
 
 has-none : {y : ℕ} → Has y [] → ⊥
 has-none h = elim h [ ]

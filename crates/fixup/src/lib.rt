@@ -10,18 +10,12 @@ ghost use Rattle.tracks.specs.Held.{pairs_in};
 ghost use Rattle.fixup.specs.Moves.{places, copy_to, start_at, line_move, corner_move, row_step, move as move_to, move_junctions, put_pair, move_pair, move_key, Side, LOWEST, HIGHEST};
 ghost use Rattle.fixup.specs.Separation.{separate_axis, separate_wires, Listed};
 
-use tracks::types::Corridors;
+use tracks::types::{Corridors, VERTICES};
+use tracks::{CORNER, PLACES};
 use types::Page;
 use vertex::VertexKind;
 
 mod types;
-
-const VERTICES: usize = 512;
-
-const PLACES: u64 = 2048;
-
-// The letter of a corner.
-const CORNER: u32 = 67;
 
 // Gives the vertex e the coordinate of v.
 fn copy_to(xs: &mut [i32], v: usize, e: usize)

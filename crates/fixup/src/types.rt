@@ -6,7 +6,7 @@ ghost use Rattle.std.proofs.Props.{props};
 ghost use Rattle.vertex.specs.Pages.{Joined};
 
 // The kinds of so many vertices, and their junctions. The lists of x and y go beside it: a struct of lent lists that are written would have each function promise that it still holds the same.
-#[derive(Clone, Copy)]
+#[derive(Clone, Copy, Debug, PartialEq, Eq)]
 pub struct Page<'a> {
     pub vertices: usize,
     pub kinds: &'a [u8],

@@ -1,11 +1,10 @@
 -- 01, 'Graph': 'the axis lists are all anchors' sorted distinct x and y'; the graph of padded boxes and anchors, pruned or not.
-use Rattle.std.specs.Prelude.{Bool, cond, List, ℕ, ◌≤◌, ℤ, length}
+use Rattle.std.specs.Prelude.{◌≡◌, Bool, cond, List, ℕ, ◌<◌, ◌≤◌, length, Option, Some, None}
 use Rattle.fixed.specs.declared.PaddedBox.{PaddedBox}
 use Rattle.fixed.specs.Boxes.{min_xs, min_ys, max_xs, max_ys}
 use Rattle.axis.specs.Axis.{axis}
 use Rattle.nodes.specs.Graph.{Graph, NODES}
 use Rattle.scan.specs.Scan.{Page, Anchors, build}
-use Rattle.scan.specs.Lent.{Held}
 use Rattle.prune.specs.Prune.{prune}
 
 -- padded boxes
@@ -30,7 +29,7 @@ whole b s = build (built_page b s) s
 unfoldable pub made : Boxes → Anchors → Bool → Graph
 made b s pruned = cond pruned (prune (whole b s)) (whole b s)
 
--- the graph h, made from g, which is within the limit, is in the list, as its first n nodes
-pub record Made (g h : Graph) (nodes : List ℤ) (n : ℕ) : Type 0 where
-  pub fits : g.count ≤ NODES
-  pub held : Held h nodes n
+-- None if the graph g, from which h is made, is over the limit, else the graph that is handed back is h
+abbrev pub Made : {A : Type 0} → Option A → Graph → Graph → Graph → Type 0
+Made None g h v = NODES < g.count
+Made (Some _) g h v = (g.count ≤ NODES) × (v ≡ h)

@@ -1,26 +1,21 @@
 // The graph of padded boxes and anchors: axis lists, nodes, scans, and pruning if it is asked for.
 #![tactic(auto)]
 
-ghost use Rattle.std.specs.Prelude.{◌<◌, ◌≤◌, length, MatchOption};
+ghost use Rattle.std.specs.Prelude.{◌≤◌, length};
 ghost use Rattle.fixed.specs.Constants.{COORDS};
-ghost use Rattle.nodes.specs.Graph.{NODES};
-ghost use Rattle.nodes.specs.Columns.{GRAPH_WORDS};
-ghost use Rattle.scan.specs.Lent.{Held, anchors as anchors_of};
+ghost use Rattle.nodes.specs.Columns.{graph_of};
+ghost use Rattle.nodes.specs.Lent.{Built};
+ghost use Rattle.scan.specs.Lent.{anchors as anchors_of};
 ghost use Rattle.graph.specs.Build.{boxes_of, whole, made, Made};
 
 use fixed::{Anchor, PaddedBox};
+use nodes::Graph;
 use scan::Page;
 
-// The graph of padded boxes and anchors, not pruned: how many nodes it has, or nothing where it would have more than NODES.
-fn whole(
-    boxes: &[PaddedBox],
-    anchors: &[Anchor],
-    explicit: usize,
-    nodes: &mut [i32],
-) -> Option<usize>
+// The graph of padded boxes and anchors, not pruned: nothing where it would have more than NODES nodes.
+fn whole(boxes: &[PaddedBox], anchors: &[Anchor], explicit: usize, graph: &mut Graph) -> Option<()>
     requires few { length anchors.now ≤ COORDS }
-    requires in_bounds { GRAPH_WORDS ≤ length nodes.old }
-    ensures { MatchOption result (NODES < (whole (boxes_of boxes.now) (anchors_of anchors.now explicit)).count) (Held (whole (boxes_of boxes.now) (anchors_of anchors.now explicit)) nodes.new) }
+    ensures { Built result (graph_of graph.new) (whole (boxes_of boxes.now) (anchors_of anchors.now explicit)) }
 {
     let mut ax = [0; fixed::COORDS];
     let mut ay = [0; fixed::COORDS];
@@ -35,25 +30,23 @@ fn whole(
         ax: &ax[..nx],
         ay: &ay[..ny],
     };
-    scan::build(page, anchors, explicit, nodes)
+    scan::build(page, anchors, explicit, graph)
 }
 
-// The graph of the boxes and anchors, pruned or not: how many nodes it has, or nothing where it would have more than NODES before pruning.
+// The graph of the boxes and anchors, pruned or not: nothing where it would have more than NODES nodes before pruning. What the graph held before is lost.
 pub fn make(
     boxes: &[PaddedBox],
     anchors: &[Anchor],
     explicit: usize,
-    nodes: &mut [i32],
+    graph: &mut Graph,
     pruned: bool,
-) -> Option<usize>
+) -> Option<()>
     requires few { length anchors.now ≤ COORDS }
-    requires in_bounds { GRAPH_WORDS ≤ length nodes.old }
-    ensures { MatchOption result (NODES < (whole (boxes_of boxes.now) (anchors_of anchors.now explicit)).count) (Made (whole (boxes_of boxes.now) (anchors_of anchors.now explicit)) (made (boxes_of boxes.now) (anchors_of anchors.now explicit) pruned) nodes.new) }
+    ensures { let b = boxes_of boxes.now in let a = anchors_of anchors.now explicit in Made result (whole b a) (made b a pruned) (graph_of graph.new) }
 {
-    let n = whole(boxes, anchors, explicit, nodes)?;
-    Some(if pruned {
-        prune::remove_redundant_nodes(nodes, n)
-    } else {
-        n
-    })
+    whole(boxes, anchors, explicit, graph)?;
+    if pruned {
+        prune::remove_redundant_nodes(graph);
+    }
+    Some(())
 }

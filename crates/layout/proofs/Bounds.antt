@@ -7,7 +7,7 @@ use native.Mathlib.Omega.{arith}
 use borrow.Author.Tests.{eqb-true}
 use lib.Dec.{eqb, ltb}
 use lib.ListN.{length, get_or}
-use Rattle.vertex.specs.declared.Junction.TheVariants.{None}
+use Rattle.std.specs.Prelude.{None}
 use Rattle.wire.specs.Wires.{Vertices, wires}
 use Rattle.nodes.specs.Graph.{Graph}
 use Rattle.path_finding.specs.Places.{known}

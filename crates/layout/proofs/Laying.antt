@@ -1,12 +1,11 @@
 -- One net more on a page: its row, and what routing left; and the loop over all nets.
 use mathlib.Core.Path.{◌≡◌, refl, sym, ap, subst}
-use mathlib.Core.Bool.{Bool, true, false, not, true≢false}
+use mathlib.Core.Bool.{Bool, true, false}
 use mathlib.Core.List.{List}
 use Prim.Native.Nat.{ℕ, ◌+◌, ◌-◌, ◌*◌, ◌≤◌}
 use native.Mathlib.Omega.{arith}
 use native.Mathlib.Numerals.{add-one}
-use lib.ListN.{length, get_or, take, replicate, length-replicate}
-use lib.Seq.{length-take-le}
+use lib.ListN.{get_or, take, replicate, length-replicate}
 use Rattle.fixed.specs.Up.{BIAS}
 use Rattle.nodes.specs.Graph.{Graph}
 use Rattle.anchors.specs.Records.{NET}
@@ -24,21 +23,18 @@ use Rattle.layout.specs.Layout.{Page, page, put_net, with_net, net_of, nets_to, 
 use Rattle.layout.proofs.Nets.{nets-good}
 use Rattle.layout.proofs.Bounds.{connect-room}
 
--- the parts of the columns of endpoints
-pub points-parts : {A : Type 0} (k e : ℕ) (px py : List A) → e ≤ 256 → k ≤ e → k ≤ length px → k ≤ length py → (length (take k px) ≤ 256) × (length (take k py) ≡ length (take k px))
-points-parts k e px py he hk hx hy = rw (length-take-le k px hx, length-take-le k py hy) (omega arith, refl)
-
-module _ (G : Graph) (E : List ℕ) (e id k : ℕ) (px py : List ℕ) (P : Vertices) (R : List ℕ) (j : ℕ) (W : Vertices) (R1 : List ℕ) (number j1 : ℕ)
-    (hx : take k px ≡ column 1 E id e) (hy : take k py ≡ column 2 E id e) (made : net number W R1 j1 ≡ connect_net G (take k px) (take k py) P R j) where
+module _ (G : Graph) (E : List ℕ) (e id : ℕ) (px py : List ℕ) (P : Vertices) (R : List ℕ) (j : ℕ) (W : Vertices) (R1 : List ℕ) (number j1 : ℕ)
+    (hx : px ≡ column 1 E id e) (hy : py ≡ column 2 E id e) (made : net number W R1 j1 ≡ connect_net G px py P R j) where
   routed : net number W R1 j1 ≡ connect_net G (column 1 E id e) (column 2 E id e) P R j
   routed = rw (← hx, ← hy) made
 
-  pub net-laid : (i : ℕ) (nets nets1 : List ℕ) → nets1 ≡ put_net nets i number P.n (W.n - P.n) j (j1 - j) → page nets1 W R1 j1 ≡ with_net i (net_of G E e id (page nets P R j)) (page nets P R j)
+  pub net-laid : (i : ℕ) (nets nets1 : List ℕ) (told : ℕ) → told ≡ number → nets1 ≡ put_net nets i told P.n (W.n - P.n) j (j1 - j)
+      → page nets1 W R1 j1 ≡ with_net i (net_of G E e id (page nets P R j)) (page nets P R j)
   unfolding net_of with_net
-  net-laid i nets nets1 h = rw h (ap (λ (N : Net). with_net i N (page nets P R j)) routed)
+  net-laid i nets nets1 told t h = rw (h, t) (ap (λ (N : Net). with_net i N (page nets P R j)) routed)
 
-  pub net-room : P.n ≤ 512 → 2 * j ≤ P.n → Fit W.n j1
-  net-room hn hj = subst (λ (N : Net). Fit N.page.n N.j) (sym routed) (connect-room G (column 1 E id e) (column 2 E id e) P R j (record { most = hn; half = hj }))
+  pub net-room : Fit P.n j → Fit W.n j1
+  net-room f = subst (λ (N : Net). Fit N.page.n N.j) (sym routed) (connect-room G (column 1 E id e) (column 2 E id e) P R j f)
 
 -- ---- the loop
 
@@ -74,13 +70,10 @@ module _ (G : Graph) (ground : Ground LOWEST HIGHEST G) (I E : List ℕ) (e nn a
 pub from-blank : (G : Graph) (I E : List ℕ) (e nn : ℕ) (P Q B : Page) → P ≡ B → Q ≡ nets_to G I E e nn P → Q ≡ nets_to G I E e nn B
 from-blank G I E e nn P Q B h q = rw (← h) q
 
--- `not apart` is what the code tests
-pub drawn-as-is : (apart : Bool) (P Q : Page) → not apart ≡ true → P ≡ Q → P ≡ drawn apart Q
+pub drawn-as-is : (apart : Bool) (P Q : Page) → apart ≡ false → P ≡ Q → P ≡ drawn apart Q
 unfolding drawn
-drawn-as-is false P Q e h = h
-drawn-as-is true P Q e h = absurd (true≢false (sym e))
+drawn-as-is apart P Q e h = rw e h
 
-pub drawn-apart : (apart : Bool) (nets : List ℕ) (W W1 : Vertices) (R : List ℕ) (j : ℕ) (Q : Page) → not apart ≡ false → page nets W R j ≡ Q → W1 ≡ separated R j W → page nets W1 R j ≡ drawn apart Q
+pub drawn-apart : (apart : Bool) (nets : List ℕ) (W W1 : Vertices) (R : List ℕ) (j : ℕ) (Q : Page) → apart ≡ true → page nets W R j ≡ Q → W1 ≡ separated R j W → page nets W1 R j ≡ drawn apart Q
 unfolding drawn parted
-drawn-apart true nets W W1 R j Q e h s = rw (← h, s)
-drawn-apart false nets W W1 R j Q e h s = absurd (true≢false e)
+drawn-apart apart nets W W1 R j Q e h s = rw (e, ← h, s)

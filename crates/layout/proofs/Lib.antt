@@ -1,7 +1,6 @@
 pub mod Separating
 pub mod Blank
 pub mod Nets
-pub mod Rows
 pub mod Bounds
 pub mod Laying
 pub mod Ground

@@ -1,10 +1,11 @@
 -- 01, 'Nets', 'Separation' and 'Numbers handed back': all nets of a page in kept order, on the page's graph.
-use Rattle.std.specs.Prelude.{Bool, cond, List, ℕ, zero, suc, ◌+◌, ◌-◌, ◌*◌, ◌≤◌, get_or, set, replicate, ℤ}
+use Rattle.std.specs.Prelude.{Bool, cond, List, ℕ, zero, suc, ◌+◌, ◌-◌, ◌*◌, ◌≤◌, get_or, set, replicate}
 use Rattle.fixed.specs.Up.{BIAS}
 use Rattle.nodes.specs.Graph.{Graph}
 use Rattle.anchors.specs.Records.{NET}
+use Rattle.book.specs.Sizes.{NETS}
 use Rattle.vertex.specs.Pages.{VERTICES}
-use Rattle.wire.specs.Wires.{Vertices, vertices, vertices_in, vertices_out}
+use Rattle.wire.specs.Wires.{Vertices, vertices}
 use Rattle.net.specs.Points.{points_x, points_y}
 use Rattle.net.specs.Nets.{Net, connect_net}
 use Rattle.layout.specs.Separated.{separated}
@@ -12,6 +13,14 @@ use Rattle.layout.specs.Separated.{separated}
 -- a net's row has five words: number, first vertex, vertices, first junction, junctions
 abbrev pub NET_ROW : ℕ
 NET_ROW = 5
+
+-- the rows of 64 nets
+abbrev pub NET_WORDS : ℕ
+NET_WORDS = NETS * NET_ROW
+
+-- the rows of 256 junctions, three words each
+abbrev pub JOIN_WORDS : ℕ
+JOIN_WORDS = 768
 
 unfoldable pub put_net : List ℕ → ℕ → ℕ → ℕ → ℕ → ℕ → ℕ → List ℕ
 put_net R i number first count begin joins =
@@ -58,10 +67,3 @@ drawn apart P = cond apart (parted P) P
 pub record Fit (n j : ℕ) : Type 0 where
   pub most : n ≤ VERTICES
   pub half : 2 * j ≤ n
-
--- what a clause sees of the lent lists of a page
-abbrev pub page_in : List ℕ → List ℤ → List ℤ → List ℕ → ℕ → List ℕ → ℕ → Page
-page_in nets x y letters n joins j = page nets (vertices_in x y letters n) joins j
-
-abbrev pub page_out : List ℕ → List ℤ → List ℤ → List ℕ → ℕ → List ℕ → ℕ → Page
-page_out nets x y letters n joins j = page nets (vertices_out x y letters n) joins j

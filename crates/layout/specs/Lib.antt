@@ -1,3 +1,4 @@
 pub mod Separated
 pub mod Layout
 pub mod Answer
+pub mod Lent

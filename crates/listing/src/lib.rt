@@ -1,4 +1,4 @@
-// Writes a laid-out page as the listing of 01's program `wires`, into a lent buffer.
+// Writes a laid-out page as the listing of 01's program `wires`, into a lent buffer. As in `decimals`, a writer takes a place and returns the one behind.
 #![tactic(auto)]
 
 ghost use Rattle.std.specs.Prelude.{[], ◌∷◌, ◌++◌, ◌+◌, ◌<◌, ◌≤◌, ◌≡◌, length, get_or};
@@ -8,9 +8,11 @@ ghost use Rattle.decimals.specs.Write.{digits, signed, field, Put};
 ghost use Rattle.listing.specs.Listing.{line, vertex_line, join_line, join_at, net_line, net_at, listing, refused_line, crowded_line, First};
 ghost use Rattle.listing.specs.Lent.{page_of, net_of, part_of, vertices_of, joins_at, all_joins};
 
+use fixed::get_or;
+
 // A laid-out page: rows of five words a net (number, first vertex, vertices, first junction, junctions), the nets' ids, the vertices'
 // coordinates and letters, and rows of three words a junction (vertex, joining end vertex, letter). There are as many nets as ids.
-#[derive(Clone, Copy)]
+#[derive(Clone, Copy, Debug, PartialEq, Eq)]
 pub struct Page<'a> {
     pub nets: &'a [u32],
     pub ids: &'a [u32],
@@ -21,7 +23,7 @@ pub struct Page<'a> {
 }
 
 // A net's id and row: the first of its vertices and how many they are, and the same of its junctions.
-#[derive(Clone, Copy)]
+#[derive(Clone, Copy, Debug, PartialEq, Eq)]
 struct Net {
     id: u32,
     number: u32,
@@ -29,13 +31,6 @@ struct Net {
     vertices: u32,
     begin: u32,
     junctions: u32,
-}
-
-// The element at i, or `default` past the end.
-fn get_or<T: Copy>(xs: &[T], i: usize, default: T) -> T
-    ensures { result ≡ get_or xs.now i default }
-{
-    xs.get(i).copied().unwrap_or(default)
 }
 
 // The coordinate at i, or 0 past the end.

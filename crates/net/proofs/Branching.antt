@@ -3,15 +3,14 @@ use mathlib.Core.Path.{◌≡◌, refl, sym, ap, subst}
 use mathlib.Core.Bool.{Bool, true, false, cond, not, ◌||◌}
 use mathlib.Core.List.{List}
 use Prim.Native.Nat.{ℕ, zero, suc, ◌+◌, ◌*◌, ◌<◌, ◌≤◌}
-use native.Mathlib.Numerals.{add-one}
 use native.Mathlib.Omega.{arith}
 use lib.Dec.{eqb}
 use lib.ListN.{get_or}
 use borrow.Author.Tests.{eq-eqb, ne_eqb, eqb-true, eqb-false}
 use Rattle.nodes.specs.Graph.{Graph}
-use Rattle.vertex.specs.declared.Junction.{Junction}
+use Rattle.vertex.specs.Kinds.{Junction}
 use Rattle.wire.specs.Lines.{Line}
-use Rattle.wire.specs.Wires.{Vertices, vertices, Ends, ends as ends_of, Wires, wires, push_vertices, push_fallback, line_vertices, line_ends, fallback_vertices}
+use Rattle.wire.specs.Wires.{Wires, push_vertices, push_fallback, line_vertices, line_ends, fallback_vertices}
 use Rattle.routing.specs.Branches.{Tried, tried, fits, line_wire, fallback_wire, route_wire, route_branch, join_branch}
 use Rattle.routing.proofs.Limits.{line-m, fallback-m, limited}
 use Rattle.net.specs.Lent.{Bounds}
@@ -101,19 +100,12 @@ room_for B = (B.n_most, B.m_some, B.m_most, omega (arith, B.n_most, B.joined))
 
 -- ---- one endpoint
 
--- a junction more where the wire was made
-pub joint-one : (t j : ℕ) → t ≡ 0 → j + 1 ≡ cond (eqb t 0) (j + 1) j
-joint-one t j e = rw (eq-eqb _ _ e)
-
-pub joint-none : (t j : ℕ) → (t ≡ 0 → ⊥) → j ≡ cond (eqb t 0) (j + 1) j
-joint-none t j e = rw (ne_eqb _ _ e)
-
-pub from_is : (G : Graph) (x y k : ℕ) (W : Wires) (R R' : List ℕ) (j t : ℕ) (P : Vertices) (E : Ends) (num n m j' : ℕ) → tried t (wires P E) ≡ route_branch (branch_line G x y W.net) x y (along G x y) W
-    → R' ≡ join_branch (branch_line G x y W.net) x y (along G x y) W R j → num ≡ t → n ≡ P.n → m ≡ E.m → j' ≡ cond (eqb t 0) (j + 1) j
-    → branched num (wires (vertices P.x P.y P.kinds n) (ends_of E.rows m)) R' j' ≡ branch_from G x y (branched k W R j)
+-- a branch that was tried along the line
+pub branch-made : (G : Graph) (x y k : ℕ) (W : Wires) (R R' : List ℕ) (j j' t : ℕ) (X : Wires) (L : Line) (ahead : Bool) → L ≡ branch_line G x y W.net → ahead ≡ along G x y
+    → tried t X ≡ route_branch L x y ahead W → R' ≡ join_branch L x y ahead W R j → j' ≡ cond (eqb t 0) (j + 1) j → branched t X R' j' ≡ branch_from G x y (branched k W R j)
 unfolding branch_from
-from_is G x y k W R R' j t P E num n m j' e r a b c d =
-    rw (a, b, c, d, r) (ap (λ (T : Tried). branched T.number T.wires (join_branch (branch_line G x y W.net) x y (along G x y) W R j) (cond (eqb T.number 0) (j + 1) j)) e)
+branch-made G x y k W R R' j j' t X L ahead l a e r q =
+    rw (← l, ← a, q, r) (ap (λ (T : Tried). branched T.number T.wires (join_branch L x y ahead W R j) (cond (eqb T.number 0) (j + 1) j)) e)
 
 module _ (G : Graph) (px py : List ℕ) (a b i : ℕ) (S : Branched) where
   pub at-refused : (S.number ≡ 0 → ⊥) → S ≡ branch_at G px py a b i S
@@ -127,16 +119,3 @@ module _ (G : Graph) (px py : List ℕ) (a b i : ℕ) (S : Branched) where
   pub at-branch : (X : Branched) (k : ℕ) → S.number ≡ 0 → (eqb i a || eqb i b) ≡ false → X ≡ branch_from G (get_or px i 0) (get_or py i 0) (branched k S.wires S.joins S.j) → X ≡ branch_at G px py a b i S
   unfolding branch_at branch_from
   at-branch X k h t e = rw (eq-eqb _ _ h, t) e
-
--- ---- all of them
-
-pub to_none : (G : Graph) (px py : List ℕ) (a b : ℕ) (S : Branched) → S ≡ branches_to G px py a b 0 S
-unfolding branches_to
-to_none G px py a b S = refl
-
-pub to-more : (G : Graph) (px py : List ℕ) (a b k : ℕ) (S₀ S X : Branched) → S ≡ branches_to G px py a b k S₀ → X ≡ branch_at G px py a b k S → X ≡ branches_to G px py a b (k + 1) S₀
-unfolding branches_to
-to-more G px py a b k S₀ S X s x = rw (add-one, ← s) x
-
-pub to_end : (G : Graph) (px py : List ℕ) (a b k n : ℕ) (S₀ S : Branched) → k ≡ n → S ≡ branches_to G px py a b k S₀ → S ≡ branches_to G px py a b n S₀
-to_end G px py a b k n S₀ S e s = rw (← e) s

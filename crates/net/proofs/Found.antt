@@ -1,5 +1,5 @@
 -- The path that a search leaves is the line that the wires take.
-use mathlib.Core.Path.{◌≡◌, refl, sym, ◌∙◌}
+use mathlib.Core.Path.{◌≡◌, refl, ◌∙◌}
 use mathlib.Core.Bool.{Bool, true, false, cond}
 use mathlib.Core.List.{List, [], ◌∷◌}
 use Prim.Native.Nat.{ℕ, ◌<◌, ◌≤◌, zero-le}
@@ -7,23 +7,22 @@ use native.Mathlib.Omega.{arith}
 use lib.Dec.{ltb}
 use lib.IntN.{ℤ}
 use lib.ListN.{length, take, set}
-use lib.Seq.{length-take-le}
 use borrow.Author.Tests.{ltb-true}
 use Rattle.fixed.specs.Up.{ups}
 use Rattle.fixed.proofs.Lists.{length-ups, ups-take}
-use Rattle.nodes.specs.Graph.{Graph}
-use Rattle.nodes.specs.Columns.{GRAPH_WORDS, graph}
-use Rattle.astar.specs.Reached.{Ready}
+use Rattle.nodes.specs.Graph.{Graph, NODES}
+use Rattle.astar.specs.Reached.{Ready, Below}
+use Rattle.path_finding.specs.declared.Finder.{Finder}
+use Rattle.path_finding.specs.Lent.{Kept}
 use Rattle.path_finding.specs.Line.{line as nodes-of, table}
-use Rattle.path_finding.specs.Lent.{Room}
 use Rattle.path_finding.specs.Places.{start_of, ends_of, ends_known, line_between}
-use Rattle.path_finding.proofs.Between.{few-lent, between-below}
+use Rattle.path_finding.proofs.Between.{between-below}
 use Rattle.path_finding.proofs.Theorems.{right}
-use Rattle.wire.specs.Lines.{Line, line_of, PathOn}
-use Rattle.vertex.specs.declared.Junction.{Junction}
+use Rattle.wire.specs.Lines.{Line, line_of}
+use Rattle.vertex.specs.Kinds.{Junction}
 use Rattle.wire.specs.Wires.{ends as row_ends, Wires}
-use Rattle.routing.specs.Branches.{Tried, route_wire, route_branch, join_branch}
-use Rattle.net.specs.Lent.{Searching}
+use Rattle.routing.specs.Branches.{Tried, route_wire}
+use Rattle.net.specs.Lent.{Searchable}
 use Rattle.net.specs.Nets.{found_line, end_word, branch_path, branch_line}
 
 -- a line has at most as many nodes as the graph
@@ -57,13 +56,6 @@ one_place l l' v h e = e ∙ by (ups l) (length-ups l ∙ h)
 pub all-ends : (w : ℕ) (E : List ℕ) (m : ℕ) (l : List ℤ) → take m (ups l) ≡ table (end_word w E) m → ups (take m l) ≡ table (end_word w E) m
 all-ends w E m l e = ups-take m l ∙ e
 
--- the first k of two lists, lent as ends
-pub parts-ended : (k : ℕ) (l m : List ℤ) → k ≤ length l → k ≤ length m → k ≤ 4096 → (length (take k m) ≡ length (take k l)) × (length (take k l) ≤ 4096)
-parts-ended k l m a b h =
-    let p = length-take-le k l a in
-    let q = length-take-le k m b in
-    (q ∙ sym p, omega arith)
-
 -- ---- the path that a search left at the end of a list
 
 -- to one end, and to the ends of the net
@@ -74,14 +66,8 @@ pub branch-path : (G : Graph) (x y : ℕ) (E : List ℕ) (m : ℕ) (ex ey p : Li
 branch-path G x y E m ex ey p a b e = rw (← a, ← b) e
 
 -- wires can be laid along it
-pub on-path : (n : ℕ) (l : List ℤ) → (0 < n → Ready (graph n l)) → GRAPH_WORDS ≤ length l → (x y : ℕ) (exs eys p : List ℕ) → p ≡ line_between (graph n l) x y exs eys → PathOn n l p
-on-path n l w g x y exs eys p e =
-    record {
-      few = few-lent n l w;
-      room = g;
-      below = rw e (between-below (graph n l) w x y exs eys);
-      most = rw e (omega (arith, few (graph n l) w x y exs eys, few-lent n l w));
-    }
+pub on-path : (G : Graph) → (0 < G.count → Ready G) → G.count ≤ NODES → (x y : ℕ) (exs eys p : List ℕ) → p ≡ line_between G x y exs eys → Below G.count p × (length p ≤ NODES)
+on-path G w h x y exs eys p e = rw e (between-below G w x y exs eys, omega (arith, few G w x y exs eys))
 
 -- and are those of the line that the definitions have
 pub line-found : (G : Graph) (x y : ℕ) (exs eys p : List ℕ) → p ≡ line_between G x y exs eys → line_of G p ≡ found_line G x y exs eys
@@ -97,18 +83,6 @@ branch-found G x y E m p e = line-found G x y _ _ p e
 pub root-routed : (T : Tried) (L L' : Line) (sx sy tx ty : ℕ) (a a' : Bool) (J : Junction) (W : Wires) → T ≡ route_wire L sx sy tx ty a true J W → L ≡ L' → a ≡ a' → T ≡ route_wire L' sx sy tx ty a' true J W
 root-routed T L L' sx sy tx ty a a' J W t l e = rw (← l, ← e) t
 
-module _ (L L' : Line) (sx sy : ℕ) (a a' : Bool) (W : Wires) (l : L ≡ L') (e : a ≡ a') where
-  pub branch-routed : (T : Tried) → T ≡ route_branch L sx sy a W → T ≡ route_branch L' sx sy a' W
-  branch-routed T t = rw (← l, ← e) t
-
-  pub branch-joined : (R R' : List ℕ) (j : ℕ) → R' ≡ join_branch L sx sy a W R j → R' ≡ join_branch L' sx sy a' W R j
-  branch-joined R R' j t = rw (← l, ← e) t
-
--- room for more ends is room for fewer
-pub fewer-ends : {n k m : ℕ} {a b c : List ℕ} → k ≤ m → Room n m a b c → Room n k a b c
-fewer-ends h R = record { cells_room = R.cells_room; tree_room = R.tree_room; list_room = R.list_room; ends_room = omega (arith, R.ends_room) }
-
--- the scratch has its lengths
-pub searching-kept : {n : ℕ} {l : List ℤ} {a b c a' b' c' : List ℕ} → length a' ≡ length a → length b' ≡ length b → length c' ≡ length c → Searching n l a b c → Searching n l a' b' c'
-searching-kept e f g S =
-    record { ready = S.ready; words = S.words; room = record { cells_room = rw e S.room.cells_room; tree_room = rw f S.room.tree_room; list_room = rw g S.room.list_room; ends_room = rw g S.room.ends_room } }
+-- a finder that keeps its lists can still be searched on
+pub searchable-kept : {f g : Finder} → Kept f g → Searchable f → Searchable g
+searchable-kept k s = record { ready = rw k.same_graph s.ready; list_room = rw k.long_list s.list_room }

@@ -1,37 +1,51 @@
 -- What each small function has is what its definition says, and one turn of each loop.
-use mathlib.Core.Path.{◌≡◌, refl, sym, ◌∙◌}
-use mathlib.Core.Bool.{Bool, true, false}
+use mathlib.Core.Path.{◌≡◌, refl}
+use mathlib.Core.Bool.{Bool, true, false, ◌&&◌}
 use mathlib.Core.List.{List, []}
 use Prim.Native.Nat.{ℕ, ◌+◌, ◌*◌, ◌<◌, ◌≤◌}
 use native.Mathlib.Numerals.{add-one}
 use native.Mathlib.Omega.{arith}
 use lib.IntN.{ℤ}
-use lib.ListN.{length, get_or, set, take, length-take, get_or-eq_default}
-use lib.Seq.{get_or-take}
+use borrow.Author.Tests.{eq-eqb, ne_eqb, lt-ltb, le-ltb}
+use lib.Dec.{ltb}
+use lib.ListN.{length, get_or, set, take, length-map, get_or-eq_default}
+use Rattle.std.specs.Prelude.{map, Option, Some, None}
+use Rattle.std.specs.Option.{is_some}
+use Rattle.std.proofs.lemmas.List.{map-set}
+use Rattle.wire.specs.declared.types.Place.{Place}
 use Rattle.fixed.specs.Up.{BIAS, ups}
-use Rattle.nodes.specs.Graph.{seek}
-use Rattle.nodes.specs.Columns.{whole, graph}
-use Rattle.nodes.proofs.Nodes.{seek-take}
+use Rattle.nodes.specs.Graph.{Graph, seek, find}
+use Rattle.nodes.specs.Lent.{Below as Found}
 use Rattle.zeros.specs.Zeros.{closed}
 use Rattle.path_finding.specs.Line.{table}
-use Rattle.path_finding.proofs.Laws.{snoc, table-put}
+use Rattle.path_finding.specs.Places.{node_at, known}
+use Rattle.path_finding.proofs.Laws.{snoc, table-put, known_more}
 use Rattle.wire.specs.Wires.{vertices}
 use Rattle.net.specs.Points.{ROW, owns, column}
 use Rattle.net.specs.Nets.{along_at, along, end_word, net, refused}
 
--- ---- the direction of a place's node
+-- ---- the node at a place
 
-module _ (l : List ℤ) (n x y s : ℕ) (e : s ≡ seek (whole l).xs (whole l).ys n x y) where
-  same : seek (take n (whole l).xs) (take n (whole l).ys) n x y ≡ s
-  same = seek-take (whole l).xs (whole l).ys n x y ∙ sym e
+-- its direction
+module _ (G : Graph) (x y : ℕ) where
+  pub along-in : (s : ℕ) (r : Bool) → Found (Some s) G.count (find G x y) → r ≡ along_at G.marks s → r ≡ along G x y
+  unfolding along find
+  along-in s r f q = rw (← f.0) q
 
-  pub along-in : (r : Bool) → s < n → r ≡ along_at (whole l).marks s → r ≡ along (graph n l) x y
-  unfolding along along_at
-  along-in r h q = rw (same, get_or-take n (whole l).marks s 0 h) q
+  pub along-out : length G.marks ≤ G.count → Found None G.count (find G x y) → false ≡ along G x y
+  unfolding along along_at find
+  along-out long f = rw (get_or-eq_default G.marks 0 {n = seek G.xs G.ys G.count x y} (omega arith))
 
-  pub along-out : n ≤ s → false ≡ along (graph n l) x y
-  unfolding along along_at
-  along-out h = rw (same, get_or-eq_default (take n (whole l).marks) 0 {n = s} (omega (arith, length-take n (whole l).marks)))
+-- whether there is one
+node-there : (o : Option ℕ) (n v : ℕ) → Found o n v → is_some o ≡ ltb v n
+node-there None n v f = rw (le-ltb _ _ f)
+node-there (Some s) n v f = rw (← f.0, lt-ltb _ _ f.1)
+
+pub known-next : (G : Graph) (exs eys : List ℕ) (k x y : ℕ) (o : Option ℕ) (ok : Bool) → ok ≡ known G.xs G.ys G.count exs eys k → x ≡ get_or exs k 0 → y ≡ get_or eys k 0 → Found o G.count (find G x y)
+    → (ok && is_some o) ≡ known G.xs G.ys G.count exs eys (k + 1)
+unfolding find node_at
+known-next G exs eys k x y o ok e ex ey f =
+    rw (node-there o G.count (find G x y) f) (known_more G.xs G.ys G.count exs eys k (find G x y) ok e (rw (ex, ey)))
 
 -- ---- endpoints
 
@@ -50,6 +64,17 @@ column-none w E id = refl
 
 pub column-end : (w : ℕ) (E : List ℕ) (id k n : ℕ) (l : List ℕ) → k ≡ n → l ≡ column w E id k → l ≡ column w E id n
 column-end w E id k n l e h = rw (← e) h
+
+-- a row of the net adds a place, any other row none: f is one of its coordinates
+module _ (E : List ℕ) (id k w : ℕ) (f : Place → ℕ) (ps qs : List Place) (m n : ℕ) (e : take m (map f ps) ≡ column w E id k) where
+  pub point-on : (p : Place) → get_or E (k * ROW) 0 ≡ id → qs ≡ set ps m p → n ≡ m + 1 → m < length ps → f p ≡ get_or E (k * ROW + w) 0 → take n (map f qs) ≡ column w E id (k + 1)
+  unfolding owns
+  point-on p o q r h v =
+      rw (q, r, map-set f ps m p) (column-on E id k true (rw (o, eq-eqb id id refl)) w m (f p) (map f ps) e (rw length-map h) refl v)
+
+  pub point-off : (get_or E (k * ROW) 0 ≡ id → ⊥) → qs ≡ ps → n ≡ m → take n (map f qs) ≡ column w E id (k + 1)
+  unfolding owns
+  point-off o q r = rw (q, r) (column-off E id k false (rw (ne_eqb _ _ o)) w _ e refl)
 
 -- ---- the places of a net's ends
 

@@ -1,14 +1,13 @@
 -- 01, 'Nets' (`connect_net`) and 'Numbers handed back' 12 to 15: one net on a built graph. G is the graph; px and py are the columns of the net's endpoints.
 -- The page's vertices and junctions hold those of earlier nets too, and all indices are the page's.
-use Rattle.std.specs.Prelude.{Bool, true, ◌||◌, not, cond, List, [], ◌∷◌, ℕ, zero, suc, ◌+◌, ◌*◌, ◌/◌, ◌%◌, eqb, ltb, length, get_or, replicate, ℤ}
+use Rattle.std.specs.Prelude.{Bool, true, ◌||◌, not, cond, List, [], ◌∷◌, ℕ, zero, suc, ◌+◌, ◌*◌, ◌/◌, ◌%◌, eqb, ltb, length, get_or, replicate, None}
 use Rattle.fixed.specs.Up.{BIAS}
 use Rattle.nodes.specs.Graph.{Graph, seek}
 use Rattle.path_finding.specs.Line.{table}
 use Rattle.path_finding.specs.Places.{known, line_between}
 use Rattle.zeros.specs.Zeros.{closed}
-use Rattle.vertex.specs.declared.Junction.TheVariants.{None}
 use Rattle.wire.specs.Lines.{Line, line_of}
-use Rattle.wire.specs.Wires.{Vertices, vertices, Ends, ends, Wires, wires, wires_in, wires_out}
+use Rattle.wire.specs.Wires.{Vertices, vertices, Ends, ends, Wires, wires}
 use Rattle.routing.specs.Roots.{root_pair}
 use Rattle.routing.specs.Branches.{Tried, route_wire, route_branch, join_branch}
 
@@ -34,14 +33,15 @@ root_from px py = root_pair px py (length px) / length px
 abbrev pub root_to : List ℕ → List ℕ → ℕ
 root_to px py = root_pair px py (length px) % length px
 
+-- the root wire from (sx, sy) to (ex, ey)
+abbrev pub root_wire_from : Graph → ℕ → ℕ → ℕ → ℕ → Wires → Tried
+root_wire_from G sx sy ex ey W =
+    route_wire (found_line G sx sy (ex ∷ []) (ey ∷ [])) sx sy ex ey (along G sx sy) true None W
+
 -- the root wire from endpoint a to endpoint b
 unfoldable pub root_wire : Graph → List ℕ → List ℕ → ℕ → ℕ → Wires → Tried
 root_wire G px py a b W =
-    let sx = get_or px a 0 in
-    let sy = get_or py a 0 in
-    let ex = get_or px b 0 in
-    let ey = get_or py b 0 in
-    route_wire (found_line G sx sy (ex ∷ []) (ey ∷ [])) sx sy ex ey (along G sx sy) true None W
+    root_wire_from G (get_or px a 0) (get_or py a 0) (get_or px b 0) (get_or py b 0) W
 
 -- ---- the branches, `route_branch_wires`
 
@@ -126,11 +126,3 @@ connect_net G px py P R j =
     let routed = kept (route_net G px py P R j) P R j in
     cond (ltb (length px) 2) (refused 12 P R j)
     (cond (known G.xs G.ys G.count px py (length px)) routed (refused 13 P R j))
-
--- ---- what a clause sees of the lent lists
-
-abbrev pub branched_in : ℕ → List ℤ → List ℤ → List ℕ → ℕ → List ℕ → ℕ → List ℕ → ℕ → Branched
-branched_in number x y letters n rows m joins j = branched number (wires_in x y letters n rows m) joins j
-
-abbrev pub branched_out : ℕ → List ℤ → List ℤ → List ℕ → ℕ → List ℕ → ℕ → List ℕ → ℕ → Branched
-branched_out number x y letters n rows m joins j = branched number (wires_out x y letters n rows m) joins j

@@ -4,9 +4,8 @@ use mathlib.Core.Bool.{Bool, false}
 use mathlib.Core.Logic.{◌⊎◌, inl}
 use Prim.Native.Nat.{ℕ, ◌+◌, ◌<◌, ◌≤◌}
 use native.Mathlib.Omega.{arith}
-use Rattle.vertex.specs.Kinds.{start, end}
+use Rattle.vertex.specs.Kinds.{start, end, Junction}
 use Rattle.vertex.specs.Pages.{Within}
-use Rattle.vertex.specs.declared.Junction.{Junction}
 use Rattle.vertex.specs.declared.VertexKind.{VertexKind}
 use Rattle.vertex.specs.declared.VertexKind.TheVariants.{WireStart, WireEnd}
 use Rattle.wire.specs.Ends.{CORNER, LINE}

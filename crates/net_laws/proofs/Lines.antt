@@ -11,7 +11,7 @@ use lib.Dec.{eqb}
 use lib.ListN.{get_or}
 use Rattle.fixed.specs.Steps.{dummy}
 use Rattle.vertex.specs.Pages.{Within}
-use Rattle.vertex.specs.declared.Junction.{Junction}
+use Rattle.vertex.specs.Kinds.{Junction}
 use Rattle.vertex.specs.declared.VertexKind.TheVariants.{WireStart, Dummy, Normal, WireEnd}
 use Rattle.wire.specs.Ends.{CORNER, LINE}
 use Rattle.wire.specs.Lines.{Line, NORMAL, straight, kept}

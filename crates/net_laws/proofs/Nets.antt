@@ -10,16 +10,15 @@ use borrow.Author.Tests.{eq-eqb, ne_eqb, eqb-true, eqb-false}
 use lib.Dec.{eqb}
 use lib.ListN.{length, get_or, take}
 use Rattle.fixed.proofs.Bools.{and_left, and_right}
-use Rattle.vertex.specs.Kinds.{kind_of}
+use Rattle.vertex.specs.Kinds.{kind_of, Junction}
 use Rattle.vertex.specs.Pages.{holder, joiner, kind_at, carried, Within}
-use Rattle.vertex.specs.declared.Junction.{Junction}
 use Rattle.vertex.specs.declared.VertexKind.TheVariants.{WireEnd}
 use Rattle.wire.specs.Ends.{CORNER, LINE, end_x_at, end_y_at, end_vertex, end_kind, stands, junction_end}
 use Rattle.wire.specs.Lines.{Line}
 use Rattle.wire.specs.Wires.{Vertices, Ends, Wires, wires, push_vertices, push_fallback, line_vertices, line_ends, fallback_vertices}
 use Rattle.routing.specs.Branches.{tried, fits, line_wire, fallback_wire, route_wire, joined_end, route_branch, put_junction, join_branch, Limited}
 use Rattle.routing.proofs.Limits.{limited}
-use Rattle.routing.proofs.Joins.{joined_in}
+use Rattle.routing.proofs.Joints.{joined_in}
 use Rattle.routing.proofs.Tries.{fits-vertices, fits-ends}
 use Rattle.net_laws.specs.Laid.{In, Laid, Offered, Long, Drawn, Wire, Leads, Reaches}
 use Rattle.net_laws.specs.Good.{Good, Net, Row}

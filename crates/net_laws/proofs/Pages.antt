@@ -7,9 +7,8 @@ use native.Mathlib.Decide.{ℕ_discrete, dec_lt}
 use native.Mathlib.Omega.{arith}
 use lib.ListN.{length, get_or, set, length-set}
 use lib.Seq.{get_or-set_same, get_or-set_other}
-use Rattle.vertex.specs.Kinds.{letter_of, kind_of, start, end}
+use Rattle.vertex.specs.Kinds.{letter_of, kind_of, start, end, Junction}
 use Rattle.vertex.specs.Pages.{kind_at, Wired, Within}
-use Rattle.vertex.specs.declared.Junction.{Junction}
 use Rattle.vertex.specs.declared.VertexKind.{VertexKind}
 use Rattle.vertex.specs.declared.VertexKind.TheVariants.{WireStart, WireEnd}
 use Rattle.vertex.proofs.Letters.{kind-letter}

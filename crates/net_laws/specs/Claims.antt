@@ -1,7 +1,7 @@
 -- 01, 'Nets': what is true of the definitions. The proofs are in proofs/Theorems.
 use Rattle.std.specs.Prelude.{◌≡◌, Bool, true, List, ℕ, ◌+◌, ◌-◌, ◌<◌, ◌≤◌, eqb, get_or}
 use Rattle.vertex.specs.Pages.{Within, Wired, carried}
-use Rattle.vertex.specs.declared.Junction.{Junction}
+use Rattle.vertex.specs.Kinds.{Junction}
 use Rattle.wire.specs.Ends.{CORNER, end_x_at, end_y_at, end_kind, stands, junction_end, nearest_end}
 use Rattle.wire.specs.Lines.{Line}
 use Rattle.wire.specs.Wires.{Vertices, Wires, push_vertices, push_fallback, line_vertices, line_ends, fallback_vertices}

@@ -1,8 +1,7 @@
 -- 01, 'Nets': one wire more on a page, and the ends that it offers.
 use Rattle.std.specs.Prelude.{◌≡◌, true, false, ◌⊎◌, ℕ, ◌+◌, ◌-◌, ◌*◌, ◌<◌, ◌≤◌, length, get_or}
-use Rattle.vertex.specs.Kinds.{start, end}
+use Rattle.vertex.specs.Kinds.{start, end, Junction}
 use Rattle.vertex.specs.Pages.{kind_at, Within}
-use Rattle.vertex.specs.declared.Junction.{Junction}
 use Rattle.vertex.specs.declared.VertexKind.TheVariants.{WireEnd}
 use Rattle.wire.specs.Ends.{ENDS, CORNER, LINE, end_x_at, end_y_at, end_vertex, end_kind, stands}
 use Rattle.wire.specs.Lines.{Line, NORMAL}

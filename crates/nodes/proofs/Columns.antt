@@ -1,83 +1,93 @@
--- The one list of a graph, as the columns in it.
---     x-at, y-at, link_at, mark-at     a word of the list is the node's
---     put-stand, put-aim, put-mark     a store to the list is one to the node
-use mathlib.Core.Path.{◌≡◌, refl, sym, ◌∙◌}
-use mathlib.Core.List.{List}
-use Prim.Native.Nat.{ℕ, ◌+◌, ◌*◌, ◌<◌, ◌≤◌}
+-- The graph in a `Graph` of the code.
+--     link_is, links-set, links-push    a link read, one stored, and the links of one node more
+--     aimed, linked-by    what `aim` and `link_both` make
+--     placed_met, placed-new    what `place` makes
+use mathlib.Core.Path.{◌≡◌, refl, sym, ap, ◌∙◌}
+use mathlib.Core.List.{List, [], ◌∷◌, ◌++◌}
+use Prim.Native.Nat.{ℕ, zero, suc, ◌+◌, ◌*◌, ◌<◌, ◌≤◌}
 use native.Mathlib.Omega.{arith}
-use lib.IntN.{ℤ}
-use lib.ListN.{length, get_or, set, length-set}
-use Rattle.fixed.specs.Up.{ups}
-use Rattle.fixed.proofs.Lists.{length-ups}
-use Rattle.fixed.specs.Columns.{cell}
-use Rattle.fixed.proofs.Columns.{length-pick, pick_at, before, beyond, own}
-use Rattle.nodes.specs.Graph.{Graph, NODES, LINKS, none, X, Y, onward, opposite, stand, aim, mark_as, bare, linked, link}
-use Rattle.nodes.specs.Columns.{GRAPH_WORDS, whole}
+use borrow.Author.Tests.{lt-ltb, le-ltb}
+use lib.Bits.{bit_or}
+use lib.ListN.{length, get_or, take, set}
+use lib.Seq.{get_or-take}
+use Rattle.std.specs.List.{flat_map}
+use Rattle.std.proofs.lemmas.Grind.{flat_map-append}
+use Rattle.nodes.specs.declared.Graph.{Graph as Store}
+use Rattle.nodes.specs.Graph.{Graph, none, opposite, find, aim, mark_as, remark, push, place, linked, link}
+use Rattle.nodes.specs.Columns.{four_of, links_of, graph_of}
+use Rattle.nodes.proofs.Nodes.{take-set, snoc-at}
+use Rattle.nodes.proofs.Sound.{four}
 
--- ---- a word of the list is a node's
+-- ---- the links, four a node
 
-module _ (l : List ℤ) (i : ℕ) (h : i < NODES) where
-  pub x-at : (r : ℕ) → r ≡ get_or (ups l) i 0 → r ≡ X (whole l) i
-  unfolding whole cell
-  x-at r e = let q : 0 + i ≡ i = omega arith in e ∙ sym (pick_at (cell 0) NODES (ups l) i h ∙ rw q)
+link_at : (ls : List (List ℕ)) (i d : ℕ) → d < 4 → get_or (links_of ls) (i * 4 + d) 0 ≡ get_or (get_or ls i []) d 0
+unfolding links_of
+link_at [] i d h = refl
+link_at (l ∷ ls) zero d h =
+    let e : 0 * 4 + d ≡ d = omega arith in
+    rw e (four (λ k. get_or (links_of (l ∷ ls)) k 0 ≡ get_or l k 0) refl refl refl refl d h)
+link_at (l ∷ ls) (suc i) d h =
+    let e : suc i * 4 + d ≡ suc (suc (suc (suc (i * 4 + d)))) = omega arith in
+    rw e (link_at ls i d h)
 
-  pub y-at : (r : ℕ) → r ≡ get_or (ups l) (4096 + i) 0 → r ≡ Y (whole l) i
-  unfolding whole cell
-  y-at r e = e ∙ sym (pick_at (cell 4096) NODES (ups l) i h)
+pub link_is : (n : ℕ) (ls : List (List ℕ)) (i d : ℕ) → i < n → d < 4 → get_or (links_of (take n ls)) (i * 4 + d) 0 ≡ get_or (get_or ls i []) d 0
+link_is n ls i d h b = link_at (take n ls) i d b ∙ rw (get_or-take n ls i [] h)
 
-  pub mark-at : (r : ℕ) → r ≡ get_or (ups l) (24576 + i) 0 → r ≡ get_or (whole l).marks i 0
-  unfolding whole cell
-  mark-at r e = e ∙ sym (pick_at (cell 24576) NODES (ups l) i h)
+fours_set : (l : List ℕ) (d v : ℕ) → length l ≡ 4 → d < 4 → four_of (set l d v) ≡ set (four_of l) d v
+fours_set [] d v e h = absurd (omega arith)
+fours_set (a ∷ []) d v e h = absurd (omega arith)
+fours_set (a ∷ b ∷ []) d v e h = absurd (omega arith)
+fours_set (a ∷ b ∷ c ∷ []) d v e h = absurd (omega arith)
+fours_set (a ∷ b ∷ c ∷ f ∷ l) d v e h =
+    four (λ k. four_of (set (a ∷ b ∷ c ∷ f ∷ l) k v) ≡ set (a ∷ b ∷ c ∷ f ∷ []) k v) refl refl refl refl d h
 
-  pub link_at : (d r : ℕ) → d < 4 → r ≡ get_or (ups l) (8192 + (i * 4 + d)) 0 → r ≡ onward (whole l) d i
-  unfolding whole cell
-  link_at d r b e = e ∙ sym (pick_at (cell 8192) LINKS (ups l) (i * 4 + d) (omega arith))
+set_at : (ls : List (List ℕ)) (i d v : ℕ) → d < 4 → length (get_or ls i []) ≡ 4 → links_of (set ls i (set (get_or ls i []) d v)) ≡ set (links_of ls) (i * 4 + d) v
+unfolding links_of
+set_at [] i d v h b = refl
+set_at (l ∷ ls) zero d v h b =
+    let e : 0 * 4 + d ≡ d = omega arith in
+    rw e (ap (λ (f : List ℕ). f ++ flat_map four_of ls) (fours_set l d v b h) ∙ four (λ k. set (four_of l) k v ++ flat_map four_of ls ≡ set (flat_map four_of (l ∷ ls)) k v) refl refl refl refl d h)
+set_at (l ∷ ls) (suc i) d v h b =
+    let e : suc i * 4 + d ≡ suc (suc (suc (suc (i * 4 + d)))) = omega arith in
+    rw (e, set_at ls i d v h b)
 
-module _ (l l' : List ℤ) (i : ℕ) (h : i < NODES) (room : GRAPH_WORDS ≤ length l) where
-  pub put-aim : (d v : ℕ) → d < 4 → ups l' ≡ set (ups l) (8192 + (i * 4 + d)) v → whole l' ≡ aim (whole l) (i * 4 + d) v
-  unfolding whole aim
-  put-aim d v b e =
-      let w : List ℕ = ups l in
-      let p : ℕ = 8192 + (i * 4 + d) in
-      rw (e, beyond NODES w p v 0 (omega arith), beyond NODES w p v 4096 (omega arith), own LINKS w p v 8192 (i * 4 + d) refl (omega (arith, length-ups l)), before NODES w p v 24576 (omega arith))
+pub links-set : (n : ℕ) (ls : List (List ℕ)) (i d v : ℕ) → i < n → d < 4 → length (get_or ls i []) ≡ 4
+    → links_of (take n (set ls i (set (get_or ls i []) d v))) ≡ set (links_of (take n ls)) (i * 4 + d) v
+links-set n ls i d v h b k =
+    let e : get_or ls i [] ≡ get_or (take n ls) i [] = sym (get_or-take n ls i [] h) in
+    rw (take-set n ls i (set (get_or ls i []) d v), e) (set_at (take n ls) i d v b (rw (← e) k))
 
-  pub put-mark : (m : ℕ) → ups l' ≡ set (ups l) (24576 + i) m → whole l' ≡ mark_as (whole l) i m
-  unfolding whole mark_as
-  put-mark m e =
-      let w : List ℕ = ups l in
-      let p : ℕ = 24576 + i in
-      rw (e, beyond NODES w p m 0 (omega arith), beyond NODES w p m 4096 (omega arith), beyond LINKS w p m 8192 (omega arith), own NODES w p m 24576 i refl (omega (arith, length-ups l)))
+links-push : (n : ℕ) (ls : List (List ℕ)) (l : List ℕ) → n < length ls → links_of (take (n + 1) (set ls n l)) ≡ links_of (take n ls) ++ four_of l
+unfolding links_of
+links-push n ls l h = rw (snoc-at ls n (n + 1) l refl h) (flat_map-append four_of (take n ls) (l ∷ []))
 
-  pub put-stand : (l'' : List ℤ) (x y : ℕ) → ups l'' ≡ set (ups l) i x → ups l' ≡ set (ups l'') (4096 + i) y → whole l' ≡ stand (whole l) i x y
-  unfolding whole stand
-  put-stand l'' x y e f =
-      let u : List ℕ = ups l in
-      let w : List ℕ = set (ups l) i x in
-      let p : ℕ = 4096 + i in
-      let z : i ≡ 0 + i = omega arith in
-      rw (f, e, beyond NODES w p y 0 (omega arith), own NODES u i x 0 i z (omega (arith, length-ups l)), own NODES w p y 4096 i refl (simp length-set (omega (arith, length-ups l))), before NODES u i x 4096 (omega arith), before LINKS w p y 8192 (omega arith), before LINKS u i x 8192 (omega arith), before NODES w p y 24576 (omega arith), before NODES u i x 24576 (omega arith))
+-- ---- a link stored
 
--- each column has a word for each row
-pub record Long (l : List ℤ) : Type 0 where
-  pub xs_long : length (whole l).xs ≡ NODES
-  pub ys_long : length (whole l).ys ≡ NODES
-  pub links_long : length (whole l).links ≡ LINKS
-  pub marks_long : length (whole l).marks ≡ NODES
-
-pub long : (l : List ℤ) → Long l
-unfolding whole
-long l =
-    record { xs_long = length-pick (cell 0) NODES (ups l); ys_long = length-pick (cell 4096) NODES (ups l); links_long = length-pick (cell 8192) LINKS (ups l); marks_long = length-pick (cell 24576) NODES (ups l) }
-
--- ---- several stores
+pub aimed : (s : Store) (i d v : ℕ) → i < s.count → d < 4 → length (get_or s.links i []) ≡ 4
+    → record { count = s.count; xs = take s.count s.xs; ys = take s.count s.ys; links = links_of (take s.count (set s.links i (set (get_or s.links i []) d v))); marks = take s.count s.marks } ≡ aim (graph_of s) (i * 4 + d) v
+unfolding aim
+aimed s i d v h b k = rw (links-set s.count s.links i d v h b k)
 
 pub linked-by : (g g' g'' : Graph) (d i j : ℕ) → g' ≡ aim g (i * 4 + d) j → g'' ≡ aim g' (j * 4 + opposite d) i → g'' ≡ link g d i j
 unfolding link linked aim
 linked-by g g' g'' d i j e f = rw (f, e)
 
-pub bared : (g g1 g2 g3 g4 : Graph) (i : ℕ) → g1 ≡ aim g (i * 4 + 0) none → g2 ≡ aim g1 (i * 4 + 1) none → g3 ≡ aim g2 (i * 4 + 2) none → g4 ≡ aim g3 (i * 4 + 3) none → g4 ≡ bare g i
-unfolding bare
-bared g g1 g2 g3 g4 i a b c d = let z : i * 4 + 0 ≡ i * 4 = omega arith in rw (d, c, b, a, z)
+-- ---- a node met or made
 
-pub made_by : (g g1 g2 g3 : Graph) (n x y m : ℕ) → g1 ≡ stand g n x y → g2 ≡ bare g1 n → g3 ≡ mark_as g2 n m → g3 ≡ mark_as (bare (stand g n x y) n) n m
-made_by g g1 g2 g3 n x y m a b c = rw (c, b, a)
+module _ (s : Store) (x y m : ℕ) where
+  pub placed_met : (i : ℕ) → i ≡ find (graph_of s) x y → i < s.count
+      → record { count = s.count; xs = take s.count s.xs; ys = take s.count s.ys; links = links_of (take s.count s.links); marks = take s.count (set s.marks i (bit_or (get_or s.marks i 0) m)) } ≡ place (graph_of s) x y m
+  unfolding place remark mark_as
+  placed_met i e h =
+      rw (← e, lt-ltb i s.count h, take-set s.count s.marks i (bit_or (get_or s.marks i 0) m), get_or-take s.count s.marks i 0 h)
+
+  module _ (h : s.count ≤ find (graph_of s) x y) where
+    pub placed-new : s.count < length s.xs → s.count < length s.ys → s.count < length s.links → s.count < length s.marks
+        → record { count = s.count + 1; xs = take (s.count + 1) (set s.xs s.count x); ys = take (s.count + 1) (set s.ys s.count y); links = links_of (take (s.count + 1) (set s.links s.count (none ∷ none ∷ none ∷ none ∷ []))); marks = take (s.count + 1) (set s.marks s.count m) } ≡ place (graph_of s) x y m
+    unfolding place push
+    placed-new a b c d =
+        rw (le-ltb _ s.count h, snoc-at s.xs s.count (s.count + 1) x refl a, snoc-at s.ys s.count (s.count + 1) y refl b, links-push s.count s.links (none ∷ none ∷ none ∷ none ∷ []) c, snoc-at s.marks s.count (s.count + 1) m refl d)
+
+    pub full-new : (place (graph_of s) x y m).count ≡ s.count + 1
+    unfolding place push
+    full-new = rw (le-ltb _ s.count h)

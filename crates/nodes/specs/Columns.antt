@@ -1,34 +1,16 @@
--- The graph in one lent list: four columns of 4,096 nodes one behind the other, x, y, four links a node (NegX, PosX, NegY, PosY), marks; and room for a fifth link.
-use Rattle.std.specs.Prelude.{List, ℕ, ◌*◌, ℤ, take}
-use Rattle.fixed.specs.Up.{ups}
-use Rattle.fixed.specs.Columns.{pick, cell}
-use Rattle.nodes.specs.Graph.{Graph, NODES, LINKS}
+-- The graph in a `Graph` of the code: the first `count` of each column.
+use Rattle.std.specs.Prelude.{List, [], ◌∷◌, ℕ, take, get_or}
+use Rattle.std.specs.List.{flat_map}
+use Rattle.nodes.specs.declared.Graph.{Graph as Store}
+use Rattle.nodes.specs.Graph.{Graph}
 
--- the words of 4,096 nodes
-abbrev pub GRAPH_WORDS : ℕ
-GRAPH_WORDS = 32768
+-- the four links of a node
+abbrev pub four_of : List ℕ → List ℕ
+four_of l = get_or l 0 0 ∷ get_or l 1 0 ∷ get_or l 2 0 ∷ get_or l 3 0 ∷ []
 
--- all nodes
-unfoldable pub whole : List ℤ → Graph
-whole l =
-    record { count = NODES; xs = pick (cell 0) NODES (ups l); ys = pick (cell 4096) NODES (ups l); links = pick (cell 8192) LINKS (ups l); marks = pick (cell 24576) NODES (ups l) }
+-- four links a node, one node behind the other
+unfoldable pub links_of : List (List ℕ) → List ℕ
+links_of ls = flat_map four_of ls
 
--- the first n nodes
-abbrev pub first : ℕ → Graph → Graph
-first n g = record { count = n; xs = take n g.xs; ys = take n g.ys; links = take (n * 4) g.links; marks = take n g.marks }
-
-abbrev pub graph : ℕ → List ℤ → Graph
-graph n l = first n (whole l)
-
--- what a clause sees of a lent list of nodes
-abbrev pub whole_in : List ℤ → Graph
-whole_in l = whole l
-
-abbrev pub whole_out : List ℤ → Graph
-whole_out l = whole l
-
-abbrev pub graph_in : ℕ → List ℤ → Graph
-graph_in n l = graph n l
-
-abbrev pub graph_out : ℕ → List ℤ → Graph
-graph_out n l = graph n l
+abbrev pub graph_of : Store → Graph
+graph_of s = record { count = s.count; xs = take s.count s.xs; ys = take s.count s.ys; links = links_of (take s.count s.links); marks = take s.count s.marks }

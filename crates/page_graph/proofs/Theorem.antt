@@ -1,24 +1,21 @@
 -- The graph of a page that is not crowded, about the definitions.
 --     page-sound    it is what a search asks, explicit anchors are explicit nodes, pruning keeps what it should
---     told-crowded, told-made, told-nodes    either it is told that the page is crowded, or the list holds its graph
+--     told-crowded, told-made, told-nodes    either it is told that the page is crowded, or its graph is handed back
 use Rattle.std.proofs.Common.{Option, None, Some}
-use mathlib.Core.Path.{◌≡◌, refl, sym, ◌∙◌}
-use mathlib.Core.Bool.{Bool, true, false, cond, ◌||◌}
-use mathlib.Core.List.{List}
+use mathlib.Core.Path.{◌≡◌, refl}
+use mathlib.Core.Bool.{Bool, true, false, ◌||◌}
 use Prim.Native.Nat.{ℕ, ◌<◌, ◌≤◌}
 use native.Mathlib.Omega.{arith}
 use borrow.Author.Tests.{ltb-false}
-use lib.IntN.{ℤ}
 use lib.ListN.{length, get_or, length-append, get_or-append}
 use Rattle.fixed.proofs.Bools.{clash}
 use Rattle.corridors.specs.Sizes.{ANCHORS}
 use Rattle.nodes.specs.Graph.{Graph, NODES}
-use Rattle.nodes.specs.Columns.{graph}
 use Rattle.anchors.specs.Records.{Records}
 use Rattle.anchors.specs.Explicit.{explicit}
 use Rattle.graph.specs.Build.{whole, made}
 use Rattle.graph.proofs.Theorem.{made-wf, made-keeps, made-explicit}
-use Rattle.page_graph.specs.Page.{implicit, then_implicit, all_anchors, overfull, boxes_of_page, anchors_of_page, crowded, graph_of_page, graphed}
+use Rattle.page_graph.specs.Page.{implicit, then_implicit, all_anchors, overfull, boxes_of_page, anchors_of_page, crowded, graph_of_page}
 use Rattle.page_graph.specs.Lent.{Answered}
 use Rattle.page_graph.specs.Claims.{PageSound}
 use Rattle.page_graph.proofs.Explicits.{explicit-even}
@@ -64,28 +61,13 @@ page-sound r pruned e =
 
 -- ---- what is told
 
-module _ {t : Option ℕ} {l : List ℤ} {full : Bool} {g : Graph} (a : Answered t l full g) where
+module _ {A : Type 0} (t : Option A) (v : Graph) (full : Bool) (g : Graph) (a : Answered t v full g) where
   pub told-crowded : t ≡ None → full ≡ true
-  unfolding graphed
-  told-crowded e = by full refl (sym e ∙ a.is)
-    where
-      by : (f : Bool) → full ≡ f → None ≡ cond f None (Some g.count) → full ≡ true
-      by true q z = q
-      by false q z = cc
+  told-crowded e = rw e at a
 
-  pub told-made : (n : ℕ) → t ≡ Some n → full ≡ false
-  unfolding graphed
-  told-made n e = by full refl (sym e ∙ a.is)
-    where
-      by : (f : Bool) → full ≡ f → Some n ≡ cond f None (Some g.count) → full ≡ false
-      by true q z = cc
-      by false q z = q
+  pub told-made : (n : A) → t ≡ Some n → full ≡ false
+  told-made n e = (rw e at a).0
 
-  -- the list holds the graph
-  pub told-nodes : (n : ℕ) → t ≡ Some n → graph n l ≡ g
-  unfolding graphed
-  told-nodes n e =
-      let f = told-made n e in
-      let z : Some n ≡ Some g.count = rw f at (sym e ∙ a.is) in
-      let k : n ≡ g.count = cc in
-      rw k (a.same f)
+  -- the graph that is handed back is the page's
+  pub told-nodes : (n : A) → t ≡ Some n → v ≡ g
+  told-nodes n e = (rw e at a).1

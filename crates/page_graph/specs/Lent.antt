@@ -1,12 +1,10 @@
 -- What `graph_of` asks of a page's records, and what it answers.
-use Rattle.std.specs.Prelude.{◌≡◌, Bool, false, List, ℕ, ◌≤◌, ℤ, length, Option}
+use Rattle.std.specs.Prelude.{◌≡◌, Bool, true, false, List, ℕ, ◌≤◌, length, Option, Some, None}
 use Rattle.fixed.specs.Constants.{BOXES}
 use Rattle.sightline.specs.Boxes.{Fields}
-use Rattle.nodes.specs.Graph.{Graph, NODES}
-use Rattle.nodes.specs.Columns.{graph}
+use Rattle.nodes.specs.Graph.{Graph}
 use Rattle.anchors.specs.Records.{BOX, Records, RowsHeld}
 use Rattle.anchors.specs.Explicit.{explicit}
-use Rattle.page_graph.specs.Page.{graphed}
 
 -- 01, 'Limits': 256 ports and 256 endpoints
 abbrev pub EXPLICIT : ℕ
@@ -26,8 +24,7 @@ pub record Asked (r : Records) : Type 0 where
   pub edged : Edged r.boxes r.box_count
   pub few_explicit : length (explicit r).xs ≤ EXPLICIT
 
--- what is told and, unless the page is crowded, its graph g in the list
-pub record Answered (r : Option ℕ) (nodes : List ℤ) (full : Bool) (g : Graph) : Type 0 where
-  pub is : r ≡ graphed full g
-  pub few : full ≡ false → g.count ≤ NODES
-  pub same : full ≡ false → graph g.count nodes ≡ g
+-- None if the page is crowded, else the graph that is handed back is the page's, g
+abbrev pub Answered : {A : Type 0} → Option A → Graph → Bool → Graph → Type 0
+Answered None v full g = full ≡ true
+Answered (Some _) v full g = (full ≡ false) × (v ≡ g)

@@ -1,5 +1,5 @@
 -- 01, 'Graph (`Graph::build`)': from a page's records to its graph.
-use Rattle.std.specs.Prelude.{Bool, true, false, cond, ◌||◌, List, ◌++◌, ℕ, ltb, length, replicate, Option, None, Some}
+use Rattle.std.specs.Prelude.{Bool, true, false, ◌||◌, List, ◌++◌, ℕ, ltb, length, replicate}
 use Rattle.sightline.specs.Boxes.{edges}
 use Rattle.corridors.specs.Merge as Implicit
 use Rattle.corridors.specs.Merge.{anchors, directions}
@@ -49,9 +49,3 @@ crowded r = overfull (boxes_of_page r) (explicit r)
 -- the graph, pruned or not
 unfoldable pub graph_of_page : Records → Bool → Graph
 graph_of_page r pruned = made (boxes_of_page r) (anchors_of_page r) pruned
-
--- ---- what is handed back
-
--- nothing if the page is crowded, else how many nodes its graph has
-unfoldable pub graphed : Bool → Graph → Option ℕ
-graphed full g = cond full None (Some g.count)

@@ -15,7 +15,7 @@ use Rattle.nodes.specs.Chains.{Place}
 use Rattle.nodes.specs.Graph.{Graph}
 use Rattle.path_finding.specs.Line.{table}
 use Rattle.path_finding.proofs.Lines.{table-length, table_at}
-use Rattle.vertex.specs.declared.Junction.TheVariants.{None}
+use Rattle.std.specs.Prelude.{None}
 use Rattle.wire.specs.Ends.{end_x_at, end_y_at, stands}
 use Rattle.wire.specs.Lines.{Line}
 use Rattle.wire.specs.Wires.{Vertices, Ends, wires}

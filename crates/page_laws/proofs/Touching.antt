@@ -3,10 +3,9 @@ use mathlib.Core.Path.{◌≡◌, ap, ◌∙◌}
 use mathlib.Core.Bool.{true}
 use Prim.Native.Nat.{ℕ, ◌-◌, ◌<◌, ◌≤◌}
 use native.Mathlib.Omega.{arith}
-use Rattle.vertex.specs.Kinds.{kind_of, start}
+use Rattle.vertex.specs.Kinds.{kind_of, start, Junction}
 use Rattle.vertex.specs.Pages.{kind_at}
-use Rattle.vertex.specs.declared.Junction.{Junction}
-use Rattle.vertex.specs.declared.Junction.TheVariants.{None}
+use Rattle.std.specs.Prelude.{None}
 use Rattle.vertex.specs.declared.VertexKind.{VertexKind}
 use Rattle.fixup.specs.Promises.{still}
 use Rattle.wire.specs.Wires.{Vertices}

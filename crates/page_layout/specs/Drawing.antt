@@ -2,6 +2,7 @@
 use Rattle.std.specs.Prelude.{Bool, List, ℕ, ℤ, length}
 use Rattle.fixed.specs.Up.{ups}
 use Rattle.anchors.specs.Records.{Records}
+use Rattle.layout.specs.declared.types.Sheet.{Sheet}
 use Rattle.layout.specs.Layout.{Page, blank}
 use Rattle.layout.specs.Answer.{layout_page}
 
@@ -16,6 +17,9 @@ pub record Drawing : Type 0 where
 
 abbrev pub drawing : List ℕ → List ℤ → List ℤ → List ℕ → List ℕ → Drawing
 drawing nets x y kinds joins = record { nets = nets; xs = ups x; ys = ups y; kinds = kinds; joins = joins }
+
+abbrev pub drawing_in : Sheet → Drawing
+drawing_in s = drawing s.nets.now s.x.now s.y.now s.letters.now s.joins.now
 
 -- the page's lists
 unfoldable pub lists_of : Page → Drawing

@@ -1,2 +1,1 @@
 pub mod Drawing
-pub mod Lent

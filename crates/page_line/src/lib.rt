@@ -12,7 +12,7 @@ use book::Kind;
 
 const BASE: u64 = decimals::BASE;
 
-const BIAS: u64 = 2147483648;
+const BIAS: u64 = decimals::BIAS as u64;
 
 // A word that is out of range.
 const OUT: u32 = u32::MAX;
@@ -34,7 +34,7 @@ pub enum Sort {
     Small,
 }
 
-// The values of the fields of `s`: how many there are, if all are plain decimals and there is room for them.
+// The values of the fields of `s`: how many there are, if all are plain decimals and there is room for them. (`enumerate` would not hand on how many.)
 fn read_fields(s: &[u8], vals: &mut [u64; MOST]) -> Option<usize>
     ensures value { result ≡ count_of (split TAB s.now) }
     ensures vals_after { IfSome result (λ n. take n vals.new ≡ values (split TAB s.now)) }
@@ -113,7 +113,7 @@ fn fill(kind: Kind, vals: &[u64], row: &mut [u32])
     }
 }
 
-// The kind that a word names.
+// The kind that a word names. It is no `TryFrom`: the kind is of `book`, the word of std.
 #[tactic(auto, unfolding(crate::specs::Records::kind_of, decimals::specs::Bytes::same))]
 fn kind_of(word: &[u8]) -> Option<Kind>
     ensures { result ≡ kind_of word.now }

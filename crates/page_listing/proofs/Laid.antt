@@ -5,7 +5,6 @@ use mathlib.Core.List.{List}
 use Prim.Native.Nat.{ℕ, ◌<◌, ◌≤◌}
 use native.Mathlib.Omega.{arith}
 use borrow.Author.Tests.{le-leb}
-use lib.Dec.{eqb}
 use lib.ListN.{length, length-replicate}
 use lib.IntN.{ℤ}
 use Rattle.fixed.specs.Up.{BIAS, ups}
@@ -20,7 +19,8 @@ use Rattle.select.specs.Page.{flat, page_of}
 use Rattle.select.proofs.Ok.{few_nets}
 use Rattle.layout.specs.Answer.{layout_number as page_number}
 use Rattle.page_layout.specs.Drawing.{Drawing, drawing, bare, laid}
-use Rattle.desk_layout.specs.Layout.{choice, ok_choice, layout_number, left, is_lent, tested, says, shows, desk_number, desk_drawing}
+use Rattle.desk_layout.specs.declared.Choice.{Choice}
+use Rattle.desk_layout.specs.Layout.{is_pruned, is_apart, ok_choice, layout_number, left, is_lent, tested, says, shows, desk_number, desk_drawing}
 use Rattle.decimals.specs.Write.{digits, digits_in, tabbed, Put}
 use Rattle.listing.specs.Listing.{line, page, listing, crowded_line}
 use Rattle.listing.proofs.Fits.{Words}
@@ -60,8 +60,8 @@ unfolding crowded_line line tabbed digits digits_in
 crowded-room size h = omega arith
 
 -- ---- the layout's number
-module _ (ws : List ℕ) (long : DESK ≤ length ws) (v : valid (book_of ws) ≡ true) (prune separate : ℕ) (hp : prune ≤ 1) (hs : separate ≤ 1) (d e : Drawing) (s : Sized d) (n : ℕ)
-    (is : n ≡ desk_number ws d (choice prune separate)) (leaves : e ≡ desk_drawing ws d (choice prune separate)) where
+module _ (ws : List ℕ) (long : DESK ≤ length ws) (v : valid (book_of ws) ≡ true) (q : Choice) (ok : ok_choice q ≡ true) (pruned apart : Bool) (ep : is_pruned q ≡ pruned) (ea : is_apart q ≡ apart)
+    (d e : Drawing) (s : Sized d) (n : ℕ) (is : n ≡ desk_number ws d q) (leaves : e ≡ desk_drawing ws d q) where
   abbrev l : Lists
   l = (book_of ws).lists
 
@@ -70,11 +70,7 @@ module _ (ws : List ℕ) (long : DESK ≤ length ws) (v : valid (book_of ws) ≡
   lent =
       rw (le-leb DESK (length ws) long, s.nets_long, s.xs_long, s.ys_long, s.kinds_long, s.joins_long)
 
-  ok : ok_choice (choice prune separate) ≡ true
-  unfolding ok_choice
-  ok = rw (le-leb prune 1 hp, le-leb separate 1 hs)
-
-  by-page : tested (seen_of ws) (choice prune separate) ≡ cond (crowded (page_of l)) 8 0
+  by-page : tested (seen_of ws) q ≡ cond (crowded (page_of l)) 8 0
   unfolding tested ranged answer layout_number page_number
   by-page = rw (v, ok)
 
@@ -98,24 +94,24 @@ module _ (ws : List ℕ) (long : DESK ≤ length ws) (v : valid (book_of ws) ≡
           let z : n ≡ 8 = number_is ∙ rw q in
           absurd (omega arith)
 
-  laid_as : n ≡ 0 → e ≡ laid (page_of l) (eqb prune 1) (eqb separate 1) d
+  laid_as : n ≡ 0 → e ≡ laid (page_of l) pruned apart d
   unfolding shows left
   laid_as h =
-      let t : tested (seen_of ws) (choice prune separate) ≡ 0 = by-page ∙ rw (is-clear h) in
-      leaves ∙ rw (lent, t)
+      let t : tested (seen_of ws) q ≡ 0 = by-page ∙ rw (is-clear h) in
+      leaves ∙ rw (lent, t, ep, ea)
 
   pub drawing-fits : n ≡ 0 → Fits e (length l.nets)
   drawing-fits h =
-      rw (laid_as h) (laid-fits l (lists-ok (book_of ws) v) (is-clear h) (eqb prune 1) (eqb separate 1) d s)
+      rw (laid_as h) (laid-fits l (lists-ok (book_of ws) v) (is-clear h) pruned apart d s)
 
   module _ (buf w : List ℕ) (r : ℕ) where
-    pub crowded-printed : (n ≡ 0 → ⊥) → Put buf 0 crowded_line w r → Put buf 0 (page_printed (eqb prune 1) (eqb separate 1) l) w r
+    pub crowded-printed : (n ≡ 0 → ⊥) → Put buf 0 crowded_line w r → Put buf 0 (page_printed pruned apart l) w r
     unfolding page_printed
     crowded-printed h p = rw (is-crowded h) p
 
-    pub laid-printed : n ≡ 0 → Put buf 0 (listing (page_on l e) (length l.nets)) w r → Put buf 0 (page_printed (eqb prune 1) (eqb separate 1) l) w r
+    pub laid-printed : n ≡ 0 → Put buf 0 (listing (page_on l e) (length l.nets)) w r → Put buf 0 (page_printed pruned apart l) w r
     unfolding page_printed laid_listing
-    laid-printed h p = rw (is-clear h, ← on-sheet (page_of l) (eqb prune 1) (eqb separate 1) d s, ← laid_as h) p
+    laid-printed h p = rw (is-clear h, ← on-sheet (page_of l) pruned apart d s, ← laid_as h) p
 
 -- ---- the listing of a drawing
 module _ (ws : List ℕ) (v : valid (book_of ws) ≡ true) (nets : List ℕ) (x y : List ℤ) (kinds joins ids : List ℕ) (n : ℕ) (is : ids ≡ flat (book_of ws).lists.nets)

@@ -2,4 +2,4 @@ pub mod Explicits
 pub mod Ready
 pub mod Theorem
 pub mod Cases
-pub mod Building
+mod Building

@@ -1,4 +1,3 @@
 pub mod Page
-pub mod Lent
 pub mod Exists
 pub mod Cases

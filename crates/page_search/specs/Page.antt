@@ -1,8 +1,14 @@
 -- 01, 'Search' and 'Numbers handed back' 0, 8, 9, 10, 11: a search on a page, from its records.
-use Rattle.std.specs.Prelude.{◌≡◌, Bool, cond, List, [], ℕ, length}
+use Rattle.std.specs.Prelude.{◌≡◌, Bool, cond, List, [], ℕ, length, Result}
+use Rattle.fixed.specs.Up.{ups}
+use Rattle.book.specs.Refusals.{number_of}
+use Rattle.book.specs.declared.Refusal.{Refusal}
 use Rattle.anchors.specs.Records.{Records}
 use Rattle.path_finding.specs.Line.{Written}
-use Rattle.path_finding.specs.Places.{number, line_between}
+use Rattle.path_finding.specs.Places.{number, line_between, nodes_in}
+use Rattle.path_finding.specs.Lent.{ends_x, ends_y}
+use Rattle.path_finding.specs.declared.Ends.{Ends}
+use Rattle.path_finding.specs.declared.Output.{Output}
 use Rattle.page_graph.specs.Page.{crowded, graph_of_page}
 
 -- '8: over 2,048 implicit anchors or 4,096 nodes'
@@ -22,3 +28,8 @@ pub record PageSearched (r : Records) (pruned : Bool) (x y : ℕ) (exs eys : Lis
   pub number_is : num ≡ search_number r pruned x y exs eys
   pub nodes_is : nodes ≡ length (search_line r pruned x y exs eys)
   pub written : Written (graph_of_page r pruned).xs (graph_of_page r pruned).ys (graph_of_page r pruned).links (search_line r pruned x y exs eys) lx ly kinds dirs
+
+-- the same, of what the code is lent
+abbrev pub PageSearchedIn : Records → Bool → ℕ → ℕ → Ends → Result ℕ Refusal → Output → Type 0
+PageSearchedIn r pruned x y ends found o =
+    PageSearched r pruned x y (ends_x ends) (ends_y ends) (number_of found) (nodes_in found) (ups o.x.now) (ups o.y.now) o.kinds.now o.directions.now

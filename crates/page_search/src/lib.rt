@@ -1,99 +1,85 @@
+// A search on a page.
 #![tactic(auto)]
 
-use path_finding::Answer;
-
-// A search on a page's graph.
-ghost use Rattle.std.specs.Prelude.{◌≡◌, ◌*◌, ◌≤◌, ◌<◌, length};
-ghost use Rattle.fixed.specs.Up.{ups};
-ghost use Rattle.astar.specs.Reached.{Ready};
+ghost use Rattle.std.specs.Prelude.{◌*◌, ◌≤◌, ◌<◌, length};
 ghost use Rattle.queue.specs.Columns.{WIDTH};
 ghost use Rattle.nodes.specs.Graph.{NODES};
-ghost use Rattle.nodes.specs.Columns.{GRAPH_WORDS, graph, graph_in};
-ghost use Rattle.search.specs.Searched.{Searched, Ended};
-ghost use Rattle.page_search.specs.Lent.{Tried, Searchable};
+ghost use Rattle.nodes.specs.Columns.{graph_of};
+ghost use Rattle.anchors.specs.Lent.{records_in};
+ghost use Rattle.astar.specs.Reached.{Ready};
+ghost use Rattle.path_finding.specs.Lent.{KeptOutput};
+ghost use Rattle.search.specs.Searched.{ENDS, SearchedIn};
+ghost use Rattle.page_search.specs.Page.{PageSearchedIn};
+ghost use Rattle.page_search.specs.Exists.{Sound};
 
-// The search on a graph of n nodes. The scratch is made here, of C cells, a tree of T words and a list of L nodes.
+use anchors::Records;
+use book::Refusal;
+use nodes::Graph;
+use path_finding::{Ends, Finder, Output};
+
+// The search on a graph. The scratch is made here, of C cells, a tree of T words and a list of L nodes.
 fn find_with<const C: usize, const T: usize, const L: usize>(
-    nodes: &[i32],
-    n: usize,
+    graph: &Graph,
     x: u32,
     y: u32,
-    ex: &[i32],
-    ey: &[i32],
-    lx: &mut [i32],
-    ly: &mut [i32],
-    kinds: &mut [u8],
-    dirs: &mut [u8],
-) -> Answer
-    requires ready { (0 < n → Ready (graph n nodes.now)) × (GRAPH_WORDS ≤ length nodes.now) }
-    requires ended { Ended ex.now ey.now }
+    ends: Ends,
+    output: &mut Output,
+) -> Result<usize, Refusal>
+    requires ready { 0 < graph.now.count → Ready (graph_of graph.now) }
     requires small { (C ≤ 20480) × (T ≤ 8192) × (L ≤ NODES) }
-    requires room { (n * WIDTH ≤ C) × (2 * n ≤ T) × (n ≤ L) × (length ex.now ≤ L) }
-    ensures { Searched (graph_in n nodes.now) x y (ups ex.now) (ups ey.now) result.number result.nodes (ups lx.new) (ups ly.new) kinds.new dirs.new }
+    requires room { (graph.now.count * WIDTH ≤ C) × (2 * graph.now.count ≤ T) × (graph.now.count ≤ L) × (length ends.x.now ≤ L) }
+    ensures searched { SearchedIn (graph_of graph.now) x y ends.entry result output.new }
+    ensures kept { KeptOutput output.old output.new }
 {
     let mut cells = [0u64; C];
     let mut tree = [0u64; T];
     let mut list = [0u32; L];
-    search::find_path(
-        nodes, n, x, y, ex, ey, lx, ly, kinds, dirs, &mut cells, &mut tree, &mut list,
-    )
+    let mut finder = Finder {
+        graph,
+        cells: &mut cells,
+        tree: &mut tree,
+        list: &mut list,
+    };
+    search::find_path(&mut finder, x, y, ends, output)
 }
 
 // The same: a smaller graph has smaller scratch, which takes less time to make.
-fn find_on(
-    nodes: &[i32],
-    n: usize,
-    x: u32,
-    y: u32,
-    ex: &[i32],
-    ey: &[i32],
-    lx: &mut [i32],
-    ly: &mut [i32],
-    kinds: &mut [u8],
-    dirs: &mut [u8],
-) -> Answer
-    requires ready { (0 < n → Ready (graph n nodes.now)) × (GRAPH_WORDS ≤ length nodes.now) }
-    requires ended { Ended ex.now ey.now }
-    ensures { Searched (graph_in n nodes.now) x y (ups ex.now) (ups ey.now) result.number result.nodes (ups lx.new) (ups ly.new) kinds.new dirs.new }
+fn find_on(graph: &Graph, x: u32, y: u32, ends: Ends, output: &mut Output) -> Result<usize, Refusal>
+    requires ready { 0 < graph.now.count → Ready (graph_of graph.now) }
+    requires few { length ends.x.now ≤ ENDS }
+    ensures searched { SearchedIn (graph_of graph.now) x y ends.entry result output.new }
+    ensures kept { KeptOutput output.old output.new }
 {
-    if n <= path_finding::SMALL && ex.len() <= path_finding::SMALL {
+    if graph.count <= path_finding::SMALL && ends.x.len() <= path_finding::SMALL {
         return find_with::<
             { path_finding::SMALL_CELLS },
             { path_finding::SMALL_TREE },
             { path_finding::SMALL },
-        >(nodes, n, x, y, ex, ey, lx, ly, kinds, dirs);
+        >(graph, x, y, ends, output);
     }
     find_with::<{ path_finding::CELLS }, { path_finding::TREE }, { nodes::NODES }>(
-        nodes, n, x, y, ex, ey, lx, ly, kinds, dirs,
+        graph, x, y, ends, output,
     )
 }
 
-// The search on a page with so many nodes in its graph: 8 and no line if it is crowded, so that there is none.
-pub fn search_on(
-    nodes: &[i32],
-    graph: Option<usize>,
+// The search on the page of the records, on its pruned graph or not: how many nodes the line has. There are zeros alone if there is none.
+pub fn search_page(
+    records: Records,
+    pruned: bool,
     x: u32,
     y: u32,
-    ex: &[i32],
-    ey: &[i32],
-    lx: &mut [i32],
-    ly: &mut [i32],
-    kinds: &mut [u8],
-    dirs: &mut [u8],
-) -> Answer
-    requires searchable { Searchable graph nodes.now }
-    requires ended { Ended ex.now ey.now }
-    ensures { Tried graph nodes.now x y (ups ex.now) (ups ey.now) result.number result.nodes (ups lx.new) (ups ly.new) kinds.new dirs.new }
+    ends: Ends,
+    output: &mut Output,
+) -> Result<usize, Refusal>
+    requires sound { Sound (records_in records) }
+    requires few { length ends.x.now ≤ ENDS }
+    ensures searched { PageSearchedIn (records_in records.entry) pruned x y ends.entry result output.new }
+    ensures kept { KeptOutput output.old output.new }
 {
-    match graph {
-        None => {
-            let line: [u32; 1] = [0; 1];
-            path_finding::write_line(nodes, 0, &line[..0], lx, ly, kinds, dirs);
-            Answer {
-                number: 8,
-                nodes: 0,
-            }
-        }
-        Some(n) => find_on(nodes, n, x, y, ex, ey, lx, ly, kinds, dirs),
-    }
+    let mut graph = Graph::new();
+    let Some(()) = page_graph::graph_of(records, pruned, &mut graph) else {
+        output.clear();
+        return Err(Refusal::Crowded);
+    };
+    find_on(&graph, x, y, ends, output)
 }

@@ -43,7 +43,7 @@ impl From<BadLine> for u32 {
     }
 }
 
-// Where a text stops: the 1-based line and the inner number.
+// Where a text stops: the 1-based line and the inner number, which C is told.
 #[derive(Clone, Copy, Debug, PartialEq, Eq)]
 pub struct Stop {
     pub line: u32,
@@ -74,7 +74,7 @@ fn read_lines(desk: &mut [u32], text: &[u8]) -> Result<(), Stop>
     desk::empty(desk);
     let mut at = 0;
     let mut line = 0;
-    // `split_inclusive` would hand on each line with its LF, which `line_at` must know to be there: the LF would be looked for twice.
+    // The lines are counted as they are read. `split_inclusive` would hand on each line with its LF, which `line_at` must know to be there: the LF would be looked for twice.
     while at < text.len() {
         line += 1;
         let e = decimals::find(text, at, decimals::LF);
@@ -97,6 +97,7 @@ pub fn read_text(desk: &mut [u32], text: &[u8], refusal: &mut [u32]) -> Result<(
     ensures desk_after { desk.new ≡ read_words text.now desk.old refusal.old }
     ensures refusal_after { refusal.new ≡ read_refusal text.now desk.old refusal.old }
 {
+    // Two tests, in the order of 01's table.
     if desk.len() < desk::DESK {
         return Err(Refusal::TooShort);
     }

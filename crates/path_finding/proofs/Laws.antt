@@ -23,7 +23,10 @@ use Rattle.queue.specs.Columns.{WIDTH, SUM, sums}
 use Rattle.queue.proofs.Tournament.{empty-indexed}
 use Rattle.astar.specs.Scratch.{SCORE, ESTIMATE, PRED, MARK, scores, estimates, preds, marked, Marked}
 use Rattle.path_finding.specs.Lent.{Blank, Behind}
-use Rattle.astar.specs.Search.{holds, toward}
+use Rattle.std.proofs.Common.{Option, Some, None, ap}
+use Rattle.nodes.specs.Lent.{Below as Found}
+use Rattle.astar.specs.Search.{holds, toward, way}
+use Rattle.astar.proofs.Laws.{way-is, toward-le}
 use Rattle.path_finding.specs.Places.{node_at, known}
 use Rattle.path_finding.specs.Line.{START, NORMAL, END, has_link, admit, goals, table, place_at, kind_at, bit, direction_at, kept_at, pruned}
 
@@ -42,33 +45,11 @@ module _ (f : ℕ → ℕ) (l : List ℤ) where
   pub table-put : (l' : List ℤ) (i v : ℕ) → take i (ups l) ≡ table f i → i < length l → ups l' ≡ set (ups l) i v → v ≡ f i → take (i + 1) (ups l') ≡ table f (i + 1)
   table-put l' i v e h s ev = rw s (table_more f (ups l) i v e (omega (arith, length-ups l)) ev)
 
--- ---- a link
-
-module _ (ls : List ℕ) (v : ℕ) where
-  abbrev At : ℕ → ℕ → Type 0
-  At d r = r ≡ get_or ls (v * 4 + d) 0
-
-  pub linked-0 : (a : ℕ) → At 0 a → (a ≡ none → ⊥) → true ≡ has_link ls v
-  unfolding has_link
-  linked-0 a e h = rw (← e, ne_eqb a none h)
-
-  pub linked-1 : (a b : ℕ) → At 0 a → a ≡ none → At 1 b → (b ≡ none → ⊥) → true ≡ has_link ls v
-  unfolding has_link
-  linked-1 a b ea za eb h = rw (← ea, eq-eqb a none za, ← eb, ne_eqb b none h)
-
-  pub linked-2 : (a b c : ℕ) → At 0 a → a ≡ none → At 1 b → b ≡ none → At 2 c → (c ≡ none → ⊥) → true ≡ has_link ls v
-  unfolding has_link
-  linked-2 a b c ea za eb zb ec h = rw (← ea, eq-eqb a none za, ← eb, eq-eqb b none zb, ← ec, ne_eqb c none h)
-
-  pub linked-3 : (a b c d : ℕ) → At 0 a → a ≡ none → At 1 b → b ≡ none → At 2 c → c ≡ none → At 3 d → not (eqb d none) ≡ has_link ls v
-  unfolding has_link
-  linked-3 a b c d ea za eb zb ec zc ed = rw (← ea, eq-eqb a none za, ← eb, eq-eqb b none zb, ← ec, eq-eqb c none zc, ← ed)
-
 -- ---- an entry of each output
 
-pub place_on : (n : ℕ) (cs : List ℤ) (l : List ℕ) (k v r : ℕ) → k < length l → v ≡ get_or l k 0 → v < n → r ≡ get_or (ups cs) v 0 → r ≡ place_at (take n (ups cs)) l k
+pub place_on : (cs l : List ℕ) (k : ℕ) → k < length l → get_or cs (get_or l k 0) 0 ≡ place_at cs l k
 unfolding place_at
-place_on n cs l k v r h e vn f = rw (lt-ltb _ _ h, ← e, get_or-take n (ups cs) v 0 vn) f
+place_on cs l k h = rw (lt-ltb _ _ h)
 
 pub place-off : (cs l : List ℕ) (k : ℕ) → length l ≤ k → BIAS ≡ place_at cs l k
 unfolding place_at
@@ -91,27 +72,10 @@ module _ (m k : ℕ) where
   unfolding kind_at
   kind-off h e = rw (le-ltb _ _ h, le-ltb _ _ e)
 
-module _ (d : ℕ) where
-  pub bit-0 : d ≡ 0 → 1 ≡ bit d
-  unfolding bit
-  bit-0 a = rw (eq-eqb _ _ a)
-
-  pub bit-1 : (d ≡ 0 → ⊥) → d ≡ 1 → 2 ≡ bit d
-  unfolding bit
-  bit-1 a b = rw (ne_eqb _ _ a, eq-eqb _ _ b)
-
-  pub bit-2 : (d ≡ 0 → ⊥) → (d ≡ 1 → ⊥) → d ≡ 2 → 4 ≡ bit d
-  unfolding bit
-  bit-2 a b c = rw (ne_eqb _ _ a, ne_eqb _ _ b, eq-eqb _ _ c)
-
-  pub bit-3 : (d ≡ 0 → ⊥) → (d ≡ 1 → ⊥) → (d ≡ 2 → ⊥) → 8 ≡ bit d
-  unfolding bit
-  bit-3 a b c = rw (ne_eqb _ _ a, ne_eqb _ _ b, ne_eqb _ _ c)
-
 module _ (ls l : List ℕ) (k : ℕ) where
-  pub direction-on : (v d r : ℕ) → k + 1 < length l → v ≡ get_or l k 0 → d ≡ toward ls v (get_or l (k + 1) 0) → r ≡ bit d → r ≡ direction_at ls l k
+  pub direction-on : (d : Option ℕ) (r : ℕ) → k + 1 < length l → Found d 4 (toward ls (get_or l k 0) (get_or l (k + 1) 0)) → r ≡ bit (way d) → r ≡ direction_at ls l k
   unfolding direction_at
-  direction-on v d r h e f g = rw (lt-ltb _ _ h, ← e, ← f) g
+  direction-on d r h f g = rw (lt-ltb _ _ h) (g ∙ ap bit (way-is d _ f (toward-le ls _ _)))
 
   pub direction-off : length l ≤ k + 1 → 0 ≡ direction_at ls l k
   unfolding direction_at
@@ -135,10 +99,6 @@ module _ (ks ds : List ℕ) (k : ℕ) where
   pub kept-none : get_or ds k 0 ≡ 0 → true ≡ kept_at ks ds k
   unfolding kept_at
   kept-none h = rw (eq-eqb _ _ h, and-false (eqb (get_or ks k 0) NORMAL))
-
-  pub kept-first : (get_or ds k 0 ≡ 0 → ⊥) → k ≡ 0 → true ≡ kept_at ks ds k
-  unfolding kept_at
-  kept-first h e = rw (e, ne_eqb (get_or ds 0 0) 0 (λ z. h (rw e z)), and-false (eqb (get_or ks 0 0) NORMAL))
 
   pub kept_by : get_or ks k 0 ≡ NORMAL → (get_or ds k 0 ≡ 0 → ⊥) → (k ≡ 0 → ⊥) → not (eqb (get_or ds k 0) (get_or ds (k - 1) 0)) ≡ kept_at ks ds k
   kept_by e h z = go k refl e h z
@@ -197,22 +157,25 @@ pub goals-begin : (ls es : List ℕ) → [] ≡ goals ls es 0
 unfolding goals
 goals-begin ls es = refl
 
--- the end e, which is v, marked and listed behind the first m
-pub counted : (n : ℕ) (ls marks list : List ℕ) (v e m : ℕ) → length marks ≡ n → v ≡ e → m < length list → e < n → Marked n (take m list) marks → holds v (take m list) ≡ false → has_link ls v ≡ true
-    → (marks' : List ℕ) → marks' ≡ set marks v 1 → (take (m + 1) (set list m e) ≡ admit ls (take m list) e) × Marked n (take (m + 1) (set list m e)) marks'
-counted n ls marks list v e m long q room en M h l marks' is =
-    let s : take (m + 1) (set list m e) ≡ take m list ++ (e ∷ []) = snoc list m e room in
-    (s ∙ admit-new ls (take m list) e (rw q at l) (rw q at h), rw (s, is, q) (marked_more n (take m list) marks e long M en))
+-- whether a node is marked says whether it counts
+pub mark-is : (n : ℕ) (gs marks : List ℕ) (v : ℕ) → Marked n gs marks → v < n → not (eqb (get_or marks v 0) 0) ≡ holds v gs
+mark-is n gs marks v M vn = rw (M.each v vn) (go (holds v gs))
+  where
+    go : (t : Bool) → not (eqb (cond t 1 0) 0) ≡ t
+    go true = refl
+    go false = refl
+
+-- the end e listed behind the first m, and marked
+module _ (list : List ℕ) (e m : ℕ) (room : m < length list) where
+  pub listed : (ls : List ℕ) → holds e (take m list) ≡ false → has_link ls e ≡ true → take (m + 1) (set list m e) ≡ admit ls (take m list) e
+  listed ls h l = snoc list m e room ∙ admit-new ls (take m list) e l h
+
+  pub marked-listed : (n : ℕ) (marks marks' : List ℕ) → length marks ≡ n → e < n → Marked n (take m list) marks → marks' ≡ set marks e 1 → Marked n (take (m + 1) (set list m e)) marks'
+  marked-listed n marks marks' long en M is = rw (snoc list m e room, is) (marked_more n (take m list) marks e long M en)
 
 pub unmarked : (n : ℕ) (m : List ℕ) → m ≡ replicate n 0 → Marked n [] m
 unfolding holds
 unmarked n m e = record { each = λ v vn. rw e (get_or-replicate n v 0 0 vn) }
-
-pub behind-none : (m : ℕ) (l : List ℕ) → Behind m l l
-behind-none m l = record { same = λ j h. refl }
-
-pub behind-set : (m x : ℕ) (l : List ℕ) → Behind m l (set l m x)
-behind-set m x l = record { same = λ j h. get_or-set_other l m j x 0 (λ z. omega arith) }
 
 -- the first i of k ends are looked at, and those that count stand first
 pub record Gathering (n k : ℕ) (ls list₀ cells₀ list cells : List ℕ) (m i : ℕ) : Type 0 where
@@ -288,6 +251,20 @@ module _ (xs ys : List ℕ) (n : ℕ) (exs eys : List ℕ) where
   pub known_more : (k v : ℕ) (ok : Bool) → ok ≡ known xs ys n exs eys k → v ≡ node_at xs ys n exs eys k → (ok && ltb v n) ≡ known xs ys n exs eys (k + 1)
   unfolding known
   known_more k v ok e f = rw (add-one, ← e, ← f)
+
+  pub known-on : (k v : ℕ) → true ≡ known xs ys n exs eys k → Found (Some v) n (node_at xs ys n exs eys k) → true ≡ known xs ys n exs eys (k + 1)
+  unfolding known
+  known-on k v e f = rw (add-one, ← e, ← f.0, lt-ltb _ _ f.1)
+
+  -- an end is no node
+  pub known-off : (i k : ℕ) → i < k → Found None n (node_at xs ys n exs eys i) → false ≡ known xs ys n exs eys k
+  unfolding known
+  known-off i zero h f = absurd (omega arith)
+  known-off i (suc k) h f = go (ℕ_discrete i k) (λ l. known-off i k l f)
+    where
+      go : Dec (i ≡ k) → (i < k → false ≡ known xs ys n exs eys k) → false ≡ (known xs ys n exs eys k && ltb (node_at xs ys n exs eys k) n)
+      go (yes e) on = rw (← e, le-ltb _ _ f, and-false (known xs ys n exs eys i))
+      go (no ne) on = rw (← on (omega arith))
 
 -- ---- the nodes that are kept
 

@@ -5,7 +5,7 @@ use mathlib.Core.List.{List, [], ◌∷◌, ◌++◌, reverse, reverse-cons}
 use mathlib.Core.Bool.{Bool, true, false, cond, not, ◌&&◌}
 use native.Mathlib.Omega.{arith}
 use native.Mathlib.Decide.{ℕ_discrete, dec_lt}
-use native.Mathlib.Nat.{le_of_suc-le-suc, not-suc-le-zero}
+use native.Mathlib.Nat.{le_of_suc-le-suc, not-suc-le-zero, zero-add}
 use lib.ListN.{length, get_or, take, drop, drop_of_length-le, replicate, length-replicate, get_or-replicate, length-append, get_or-append}
 use lib.Seq.{length-take-le, get_or-append_seam, get_or-append-add, get_or_at, ext_get_or}
 use lib.Dec.{eqb}
@@ -14,16 +14,10 @@ use Rattle.fixed.proofs.Bools.{clash}
 use Rattle.axis.proofs.Small.{Place, before, beyond, place}
 use Rattle.zeros.specs.Zeros.{closed}
 use Rattle.nodes.specs.Graph.{Graph, none}
-use Rattle.astar.specs.declared.Found.{Found}
-use Rattle.astar.specs.declared.Found.TheVariants.{Node, Nothing}
-use Rattle.astar.specs.Search.{St, chain, holds, search, found_of, traced_line}
+use Rattle.std.proofs.Common.{Some}
+use Rattle.astar.specs.Search.{St, IsNode, chain, holds, search, traced_line}
 use Rattle.astar.specs.Reached.{Ready, Below}
-use Rattle.columns.specs.Columns.{Only}
-use Rattle.queue.specs.Queue.{UNSET}
-use Rattle.queue.specs.Columns.{sums}
-use Rattle.astar.specs.Scratch.{MARK, scores, estimates, preds, marked, Marked, Held, Back, last, more}
-use Rattle.astar.proofs.Laws.{unknown}
-use Rattle.path_finding.specs.Lent.{Blank}
+use Rattle.astar.specs.Scratch.{Back, last, more}
 use Rattle.astar.proofs.Roads.{roads}
 use Rattle.astar.proofs.Line.{found-end, found-traced, line-none, line_is}
 use Rattle.path_finding.specs.Line.{has_link, admit, goals, line, table}
@@ -94,15 +88,14 @@ line-below G w es a an = all-below G.count (cond (eqb (search G es a).at none) [
 
 -- ---- the code's answer, where `gs` are the ends that count
 
-module _ (G : Graph) (w : Ready G) (es gs : List ℕ) (a : ℕ) (an : a < G.count) (f : Found) (s : St) (eg : gs ≡ goals G.links es (length es))
-    (ef : f ≡ found_of (search G gs a).at) (el : s ≡ (search G gs a).end) where
-  pub no_line : f ≡ Nothing → [] ≡ line G es a
+module _ (G : Graph) (w : Ready G) (es gs : List ℕ) (a : ℕ) (an : a < G.count) (s : St) (eg : gs ≡ goals G.links es (length es)) (el : s ≡ (search G gs a).end) where
+  pub no_line : (search G gs a).at ≡ none → [] ≡ line G es a
   unfolding line
-  no_line h = rw (← eg) (line-none G w gs a an f s ef el h)
+  no_line h = rw (← eg) (line-none G w gs a an s el h)
 
-  pub a-line : (u : ℕ) → f ≡ Node u → (r : List ℕ) → r ≡ reverse (chain G.count s.p u) → r ≡ line G es a
+  pub a-line : (u : ℕ) → IsNode (Some u) (search G gs a).at → (r : List ℕ) → r ≡ reverse (chain G.count s.p u) → r ≡ line G es a
   unfolding line
-  a-line u h r e = rw (← eg) (e ∙ line_is G w gs a an f s ef el u h)
+  a-line u h r e = rw (← eg) (e ∙ line_is G w gs a an s el u h)
 
 -- where no end counts there is no line
 no-goal : (G : Graph) → Ready G → (a : ℕ) → a < G.count → Dec ((search G [] a).at ≡ none) → [] ≡ traced_line G [] a
@@ -120,33 +113,13 @@ pub is-line-below : (G : Graph) → Ready G → (es : List ℕ) (a : ℕ) → a 
 unfolding line
 is-line-below G w es a an l e = subst (λ (x : List ℕ). Below G.count x) (sym e) (line-below G w _ a an)
 
--- no line, in a list
-pub nothing-behind : (l m : List ℕ) → [] ≡ m → (length l ≤ length l) × (drop (length l) l ≡ m)
-nothing-behind l m e = (omega arith, drop_of_length-le l {i = length l} (omega arith) ∙ e)
+-- nothing lies behind a list
+pub drop-all : (l : List ℕ) → drop (length l) l ≡ []
+drop-all l = drop_of_length-le l {i = length l} (omega arith)
 
 -- the ends that count of the first k of a list
 pub all-goals : (ls l : List ℕ) (k : ℕ) → k ≤ length l → (gs : List ℕ) → gs ≡ goals ls (take k l) k → gs ≡ goals ls (take k l) (length (take k l))
 all-goals ls l k h gs e = e ∙ ap (goals ls (take k l)) (sym (length-take-le k l h))
-
--- blank cells, with the ends marked
-module _ (n : ℕ) (a b t : List ℕ) (B : Blank n a t) (o : Only n MARK a b) where
-  pub lent-scores : scores n b ≡ replicate n UNSET
-  lent-scores = o.others 0 (λ z. omega (arith, z)) ∙ B.score_blank
-
-  pub lent-preds : preds n b ≡ replicate n none
-  lent-preds = o.others 2 (λ z. omega (arith, z)) ∙ B.pred_blank
-
-  pub lent-sums : sums n b ≡ replicate n UNSET
-  lent-sums = o.others 3 (λ z. omega (arith, z)) ∙ B.sum_blank
-
-  pub lent-held : (xs ys gs : List ℕ) → Marked n gs (marked n b) → Held n xs ys gs b t
-  lent-held xs ys gs M =
-      record {
-        room = rw o.long B.room;
-        index = rw (o.others 3 (λ z. omega (arith, z))) B.index;
-        known = unknown n xs ys gs (estimates n b) (o.others 1 (λ z. omega (arith, z)) ∙ B.estimate_blank);
-        ends = M;
-      }
 
 -- ---- a table's length
 
@@ -181,8 +154,14 @@ filled f z d k g = ext_get_or 0 (table f k ++ replicate d z) (table f (k + d)) (
         ap (λ (i : ℕ). get_or (table f k ++ replicate d z) i 0) n ∙ get_or-append-add (table f k) (replicate d z) q 0 ∙ get_or-replicate d q z 0 (omega arith) ∙ sym (table_at f (k + d) j lt ∙ g j (omega arith) lt)
 
 -- the first m entries, and z behind them, where f is z
-pub table-closed : (f : ℕ → ℕ) (z m n : ℕ) (l : List ℕ) → take m l ≡ table f m → m ≤ n → length l ≡ n → ((k : ℕ) → m ≤ k → k < n → z ≡ f k) → closed z m l ≡ table f n
+pub table-closed : (f : ℕ → ℕ) (z m n i : ℕ) (l : List ℕ) → take i l ≡ table f i → i ≡ m → m ≤ n → length l ≡ n → ((k : ℕ) → m ≤ k → k < n → z ≡ f k) → closed z m l ≡ table f n
 unfolding closed
-table-closed f z m n l e h len off =
+table-closed f z m n i l e q h len off =
     let d : length l - m ≡ n - m = omega arith in
-    rw (e, d) (filled f z (n - m) m (λ k a b. sym (off k a (omega arith))) ∙ ap (table f) (omega arith))
+    let e' = rw q at e in
+    rw (e', d) (filled f z (n - m) m (λ k a b. sym (off k a (omega arith))) ∙ ap (table f) (omega arith))
+
+-- a table of one number
+pub table-of : (f : ℕ → ℕ) (z n : ℕ) → ((k : ℕ) → f k ≡ z) → replicate n z ≡ table f n
+unfolding table
+table-of f z n h = filled f z n 0 (λ k a b. h k) ∙ ap (table f) (zero-add n)

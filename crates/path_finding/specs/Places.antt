@@ -1,5 +1,6 @@
 -- 01, 'Numbers handed back' 0, 9, 10, 11: a search between places.
-use Rattle.std.specs.Prelude.{ℕ, zero, suc, ◌-◌, ◌≡◌, List, [], Bool, true, cond, ◌&&◌, length, get_or, drop, ltb, eqb}
+use Rattle.std.specs.Prelude.{ℕ, zero, suc, ◌-◌, ◌≡◌, List, [], Bool, true, cond, ◌&&◌, length, get_or, drop, ltb, eqb, Result, Ok, Err}
+use Rattle.book.specs.declared.Refusal.{Refusal}
 use Rattle.nodes.specs.Graph.{Graph, seek}
 use Rattle.path_finding.specs.Line.{line, table}
 
@@ -33,6 +34,11 @@ unfoldable pub number : Graph → ℕ → ℕ → List ℕ → List ℕ → ℕ
 number G x y exs eys =
     let m = length (line_between G x y exs eys) in
     cond (ltb (start_of G x y) G.count) (cond (ends_known G exs eys) (cond (eqb m 0) 11 0) 10) 9
+
+-- how many nodes the line has, if there is one
+abbrev pub nodes_in : Result ℕ Refusal → ℕ
+nodes_in (Ok n) = n
+nodes_in (Err e) = 0
 
 -- what a search between places hands back: the number, how many nodes the line has, and the line at the end of a list
 pub record Answered (G : Graph) (x y : ℕ) (exs eys : List ℕ) (num nodes : ℕ) (path : List ℕ) : Type 0 where

@@ -1,5 +1,5 @@
 // The priority queue of the search: one entry a node, behind one contract (pop the first least entry; replace an entry).
-// `tree` is a tournament of the entries' keys, so that neither looks at all entries.
+// `tree` is a tournament of the entries' keys, so that neither looks at all entries. `cells`, `tree` and n go side by side, as a list and its n do in `columns`.
 #![tactic(auto)]
 
 ghost use Rattle.std.specs.Prelude.{◌≡◌, ℕ, ◌+◌, ◌*◌, ◌≤◌, ◌<◌, length, get_or, set};

@@ -2,4 +2,5 @@ pub mod Pairs
 pub mod Limits
 pub mod Starred
 pub mod Tries
-pub mod Joins
+pub mod Joints
+pub mod Alike

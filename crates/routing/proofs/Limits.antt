@@ -6,7 +6,7 @@ use native.Mathlib.Omega.{arith}
 use lib.Dec.{eqb, leb}
 use borrow.Author.Tests.{leb-true, eqb-false}
 use Rattle.fixed.proofs.Bools.{and_left, and_right}
-use Rattle.vertex.specs.declared.Junction.{Junction}
+use Rattle.vertex.specs.Kinds.{Junction}
 use Rattle.wire.specs.Lines.{Line, straight}
 use Rattle.wire.specs.Wires.{Wires, wires, Vertices, push_vertex, push_end, push_dummies, push_start, push_start_ends, push_corner, push_node, push_nodes, push_vertices, bent, corner_x, corner_y, push_bend, push_fallback_wire, push_fallback, line_vertices, line_ends, fallback_vertices}
 use Rattle.wire.proofs.Pushes.{nodes-n, fallback-least}

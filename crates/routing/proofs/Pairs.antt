@@ -9,10 +9,7 @@ use native.Mathlib.Decide.{ℕ_discrete}
 use native.Mathlib.Omega.{arith}
 use borrow.Author.Tests.{lt-ltb, le-ltb, ltb-true, ltb-false}
 use lib.Dec.{ltb}
-use Rattle.routing.specs.Roots.{slant, slant_of, root_to, root_pair}
-
-pub square-most : (n : ℕ) → n ≤ 256 → n * n ≤ 65536
-square-most n h = mul-le-mul h h
+use Rattle.routing.specs.Roots.{slant_of, root_to, root_pair}
 
 pub square-least : (n : ℕ) → 2 ≤ n → 4 ≤ n * n
 square-least n h = mul-le-mul h h
@@ -22,10 +19,6 @@ first-in n p h k = (div-lt_iff_lt-mul h).1 k
 
 pub second-in : (n p : ℕ) → 0 < n → p % n < n
 second-in n p h = mod-lt p h
-
-pub slant-is : (xs ys : List ℕ) (n p r : ℕ) → r ≡ slant xs ys (p / n) (p % n) → r ≡ slant_of xs ys n p
-unfolding slant_of
-slant-is xs ys n p r e = e
 
 pub root_none : (xs ys : List ℕ) (n : ℕ) → 1 ≡ root_to xs ys n 0
 unfolding root_to

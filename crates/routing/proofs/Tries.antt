@@ -1,23 +1,23 @@
 -- What each way out of a tried wire returns is what the definition says.
 use mathlib.Core.Path.{◌≡◌, sym, ◌∙◌}
-use mathlib.Core.Bool.{Bool, true, false, not, ◌&&◌}
+use mathlib.Core.Bool.{Bool, true, false, ◌&&◌}
 use mathlib.Core.List.{List}
 use Prim.Native.Nat.{ℕ, ◌+◌, ◌-◌, ◌≤◌}
 use lib.Dec.{eqb, leb}
 use lib.ListN.{get_or}
-use borrow.Author.Tests.{eq-eqb, ne_eqb, leb-true, not-true, not-false}
+use borrow.Author.Tests.{eq-eqb, ne_eqb, leb-true}
 use Rattle.fixed.proofs.Bools.{and_left, and_right}
-use Rattle.vertex.specs.declared.Junction.{Junction}
+use Rattle.vertex.specs.Kinds.{Junction}
 use Rattle.vertex.specs.Pages.{carried}
 use Rattle.wire.specs.Ends.{CORNER, end_x_at, end_y_at, end_vertex, end_kind, nearest_end, junction_end}
 use Rattle.wire.specs.Lines.{Line}
 use Rattle.wire.specs.Wires.{Wires, Ends, push_vertices, push_fallback, line_vertices, line_ends, fallback_vertices}
 use Rattle.routing.specs.Branches.{Tried, tried, fits, line_wire, fallback_wire, route_wire, joined_end, route_branch, put_junction, join_branch}
 
-module _ (n v m e : ℕ) (b : Bool) (q : b ≡ fits n v m e) (t : not b ≡ false) where
+module _ (n v m e : ℕ) (b : Bool) (q : b ≡ fits n v m e) (t : b ≡ true) where
   both : (leb (n + v) 512 && leb (m + e) 4096) ≡ true
   unfolding fits
-  both = sym q ∙ not-false b t
+  both = sym q ∙ t
 
   pub fits-vertices : n + v ≤ 512
   fits-vertices = leb-true (n + v) 512 (and_left (leb (n + v) 512) (leb (m + e) 4096) both)
@@ -31,22 +31,22 @@ module _ (L : Line) (is_root : Bool) (J : Junction) (W : Wires) where
   line-one h = rw (eq-eqb _ _ h)
 
   module _ (ne : L.count ≡ 1 → ⊥) (v : ℕ) (ev : v ≡ line_vertices L) (b : Bool) (q : b ≡ fits W.page.n v W.net.m (line_ends L)) where
-    pub line-over : not b ≡ true → tried 15 W ≡ line_wire L is_root J W
+    pub line-over : b ≡ false → tried 15 W ≡ line_wire L is_root J W
     unfolding line_wire
-    line-over t = rw (ne_eqb _ _ ne, ← ev, ← q, not-true b t)
+    line-over t = rw (ne_eqb _ _ ne, ← ev, ← q, t)
 
-    pub line-done : (X : Wires) → not b ≡ false → X ≡ push_vertices L is_root J W → tried 0 X ≡ line_wire L is_root J W
+    pub line-done : (X : Wires) → b ≡ true → X ≡ push_vertices L is_root J W → tried 0 X ≡ line_wire L is_root J W
     unfolding line_wire
-    line-done X t e = rw (ne_eqb _ _ ne, ← ev, ← q, not-false b t, e)
+    line-done X t e = rw (ne_eqb _ _ ne, ← ev, ← q, t, e)
 
 module _ (sx sy ex ey : ℕ) (along : Bool) (J : Junction) (W : Wires) (v : ℕ) (ev : v ≡ fallback_vertices sx sy ex ey along) (b : Bool) (q : b ≡ fits W.page.n v W.net.m 2) where
-  pub fallback-over : not b ≡ true → tried 15 W ≡ fallback_wire sx sy ex ey along J W
+  pub fallback-over : b ≡ false → tried 15 W ≡ fallback_wire sx sy ex ey along J W
   unfolding fallback_wire
-  fallback-over t = rw (← ev, ← q, not-true b t)
+  fallback-over t = rw (← ev, ← q, t)
 
-  pub fallback-done : (X : Wires) → not b ≡ false → X ≡ push_fallback sx sy ex ey along J W → tried 0 X ≡ fallback_wire sx sy ex ey along J W
+  pub fallback-done : (X : Wires) → b ≡ true → X ≡ push_fallback sx sy ex ey along J W → tried 0 X ≡ fallback_wire sx sy ex ey along J W
   unfolding fallback_wire
-  fallback-done X t e = rw (← ev, ← q, not-false b t, e)
+  fallback-done X t e = rw (← ev, ← q, t, e)
 
 module _ (L : Line) (sx sy ex ey : ℕ) (along is_root : Bool) (J : Junction) (W : Wires) (T : Tried) where
   pub route-fallback : L.count ≡ 0 → T ≡ fallback_wire sx sy ex ey along J W → T ≡ route_wire L sx sy ex ey along is_root J W

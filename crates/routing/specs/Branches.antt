@@ -2,7 +2,7 @@
 -- Numbers: 14 a line of one node, 15 page vertices or net ends over their limit.
 use Rattle.std.specs.Prelude.{◌≡◌, Bool, false, ◌&&◌, cond, List, ℕ, ◌+◌, ◌-◌, ◌*◌, ◌<◌, ◌≤◌, eqb, leb, get_or, set}
 use Rattle.vertex.specs.Pages.{VERTICES, carried}
-use Rattle.vertex.specs.declared.Junction.{Junction}
+use Rattle.vertex.specs.Kinds.{Junction}
 use Rattle.wire.specs.Ends.{ENDS, CORNER, end_x_at, end_y_at, end_vertex, end_kind, junction_end, nearest_end}
 use Rattle.wire.specs.Lines.{Line}
 use Rattle.wire.specs.Wires.{Wires, Ends, push_vertices, push_fallback, line_vertices, line_ends, fallback_vertices}

@@ -1,3 +1,4 @@
 pub mod Roots
 pub mod Branches
 pub mod Cases
+pub mod Lent

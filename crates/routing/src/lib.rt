@@ -1,58 +1,47 @@
-// The wires of a net: the root wire between the root pair of its endpoints, and a branch from each other endpoint. A line is `path`, a path of the graph of
-// `order` nodes in the list `nodes`.
+// The wires of a net: the root wire between the root pair of its endpoints, and a branch from each other endpoint.
 #![tactic(auto)]
 
-ghost use Rattle.std.specs.Prelude.{◌≡◌, ◌+◌, ◌-◌, ◌*◌, ◌<◌, ◌≤◌, length, eqb};
-ghost use Rattle.vertex.specs.Pages.{carried};
-ghost use Rattle.wire.specs.Lines.{PathOn, path_in};
-ghost use Rattle.wire.specs.Wires.{ends as ends_of, Room, wires_in, wires_out};
-ghost use Rattle.routing.specs.Branches.{tried, fits as fits_in, line_wire, fallback_wire, route_wire, joined_end, route_branch, put_junction, join_branch};
-ghost use Rattle.routing.specs.Roots.{slant as slant_at, slant_of, root_pair};
+mod types;
 
-use vertex::Junction;
+ghost use Rattle.std.specs.Prelude.{◌≡◌, ◌+◌, ◌*◌, ◌/◌, ◌%◌, ◌<◌, ◌≤◌, cond, eqb, Some, length, get_or};
+ghost use Rattle.book.specs.Refusals.{number_of};
+ghost use Rattle.fixed.specs.Steps.{gap};
+ghost use Rattle.routing.specs.Branches.{tried, fits as fits_in, line_wire, fallback_wire, route_wire, route_branch, put_junction, join_branch};
+ghost use Rattle.routing.specs.Lent.{JoinedEnd, KeptRows};
+ghost use Rattle.routing.specs.Roots.{slant_of, root_pair};
+ghost use Rattle.vertex.specs.Kinds.{letter_of};
+ghost use Rattle.vertex.specs.declared.VertexKind.TheVariants.{WireEnd};
+ghost use Rattle.wire.specs.Lent.{line_in, wires_of, xs_of, ys_of, KeptWires};
 
-// A wire that was tried: 0 or why it is refused, and the numbers of vertices and ends then.
-#[derive(Clone, Copy)]
-pub struct Step {
-    pub number: u32,
-    pub n: usize,
-    pub m: usize,
-}
+use book::Refusal;
+pub use types::Joins;
+use vertex::{JunctionKind, VertexKind};
+use wire::{End, Fallback, Line, Place, Wires};
 
-// The size of |dx| - |dy| of the endpoints a and b.
-fn slant(xs: &[u32], ys: &[u32], a: usize, b: usize) -> u32
-    requires { (a < length xs.now) × (b < length xs.now) × (length ys.now ≡ length xs.now) }
-    ensures { result ≡ slant_at xs.now ys.now a b }
+// The size of |dx| - |dy| of the pair p of the places.
+fn slant_of(points: &[Place], p: usize) -> u32
+    requires { (0 < length points.now) × (p < length points.now * length points.now) }
+    ensures { result ≡ slant_of (xs_of points.now) (ys_of points.now) (length points.now) p }
 {
-    let dx = fixed::gap(xs[a], xs[b]);
-    let dy = fixed::gap(ys[a], ys[b]);
-    fixed::gap(dx, dy)
-}
-
-// The size of |dx| - |dy| of the pair p.
-fn slant_of(xs: &[u32], ys: &[u32], p: usize) -> u32
-    requires { (0 < length xs.now) × (length ys.now ≡ length xs.now) × (p < length xs.now * length xs.now) }
-    ensures { result ≡ slant_of xs.now ys.now (length xs.now) p }
-{
-    let n = xs.len();
-    slant(xs, ys, p / n, p % n)
+    let a = points[p / points.len()];
+    let b = points[p % points.len()];
+    fixed::gap(fixed::gap(a.x, b.x), fixed::gap(a.y, b.y))
 }
 
 // The root pair of two endpoints or more.
-pub fn pick_root_path(xs: &[u32], ys: &[u32]) -> usize
-    requires { (2 ≤ length xs.now) × (length xs.now ≤ 256) × (length ys.now ≡ length xs.now) }
-    ensures { result ≡ root_pair xs.now ys.now (length xs.now) }
+pub fn pick_root_path(points: &[Place]) -> (usize, usize)
+    requires { (2 ≤ length points.now) × (length points.now ≤ 256) }
+    ensures from { result.0 ≡ root_pair (xs_of points.now) (ys_of points.now) (length points.now) / length points.now }
+    ensures to { result.1 ≡ root_pair (xs_of points.now) (ys_of points.now) (length points.now) % length points.now }
 {
-    let n = xs.len();
+    let n = points.len();
     let mut best = 1;
-    let mut p = 0;
-    while p < n * n {
-        if slant_of(xs, ys, best) < slant_of(xs, ys, p) {
+    for p in 0..n * n {
+        if slant_of(points, best) < slant_of(points, p) {
             best = p;
         }
-        p += 1;
     }
-    best
+    (best / n, best % n)
 }
 
 // Whether v vertices and e ends more keep the limits.
@@ -65,186 +54,113 @@ fn fits(n: usize, v: usize, m: usize, e: usize) -> bool
 
 // Adds a wire along a line of one node or more.
 fn line_wire(
-    nodes: &[i32],
-    order: usize,
-    path: &[u32],
-    root: bool,
-    junction: Junction,
-    x: &mut [i32],
-    y: &mut [i32],
-    letters: &mut [u8],
-    n: usize,
-    ends: &mut [u32],
-    m: usize,
-) -> Step
-    requires path_on { PathOn order nodes.now path.now }
-    requires room { Room (length x.old) (length y.old) (length letters.old) }
-    requires path_nonzero { (0 < length path.now) × (n ≤ 512) × (m ≤ 4096) × (16384 ≤ length ends.old) }
-    ensures { tried result.number (wires_out x.new y.new letters.new result.n ends.new result.m) ≡ line_wire (path_in order nodes.now path.now) root junction (wires_in x.old y.old letters.old n ends.old m) }
+    wires: &mut Wires,
+    line: Line,
+    is_root: bool,
+    junction: Option<JunctionKind>,
+) -> Result<(), Refusal>
+    requires { 0 < length line.path.now }
+    ensures value { tried (number_of result) (wires_of wires.new) ≡ line_wire (line_in line.entry) is_root junction (wires_of wires.old) }
+    ensures kept { KeptWires wires.old wires.new }
 {
-    if path.len() == 1 {
-        return Step { number: 14, n, m };
+    if line.path.len() == 1 {
+        return Err(Refusal::PathTooShort);
     }
-    let v = wire::line_vertices(nodes, order, path);
-    let e = path.len() + 1;
-    if !fits(n, v, m, e) {
-        return Step { number: 15, n, m };
+    if !fits(wires.n, line.vertices(), wires.m, line.path.len() + 1) {
+        return Err(Refusal::TooLong);
     }
-    let total = wire::push_vertices(
-        nodes, order, path, root, junction, x, y, letters, n, ends, m,
-    );
-    Step {
-        number: 0,
-        n: total,
-        m: m + e,
-    }
+    wires.push_vertices(line, is_root, junction);
+    Ok(())
 }
 
-// Adds a fallback from s to e.
+// Adds a wire where there is no line.
 fn fallback_wire(
-    sx: u32,
-    sy: u32,
-    ex: u32,
-    ey: u32,
-    along: bool,
-    junction: Junction,
-    x: &mut [i32],
-    y: &mut [i32],
-    letters: &mut [u8],
-    n: usize,
-    ends: &mut [u32],
-    m: usize,
-) -> Step
-    requires room { Room (length x.old) (length y.old) (length letters.old) }
-    requires n_bound { (n ≤ 512) × (m ≤ 4096) × (16384 ≤ length ends.old) }
-    ensures { tried result.number (wires_out x.new y.new letters.new result.n ends.new result.m) ≡ fallback_wire sx sy ex ey along junction (wires_in x.old y.old letters.old n ends.old m) }
+    wires: &mut Wires,
+    way: Fallback,
+    junction: Option<JunctionKind>,
+) -> Result<(), Refusal>
+    ensures value { tried (number_of result) (wires_of wires.new) ≡ fallback_wire way.start.x way.start.y way.end.x way.end.y way.along junction (wires_of wires.old) }
+    ensures kept { KeptWires wires.old wires.new }
 {
-    let v = wire::fallback_vertices(sx, sy, ex, ey, along);
-    if !fits(n, v, m, 2) {
-        return Step { number: 15, n, m };
+    if !fits(wires.n, way.vertices(), wires.m, 2) {
+        return Err(Refusal::TooLong);
     }
-    let total = wire::push_fallback_vertices(
-        sx, sy, ex, ey, along, junction, x, y, letters, n, ends, m,
-    );
-    Step {
-        number: 0,
-        n: total,
-        m: m + 2,
-    }
+    wires.push_fallback_vertices(way, junction);
+    Ok(())
 }
 
-// Adds a wire from s along a line, or to e where the line has no node.
+// Adds a wire along a line, or the other way where the line has no node.
 pub fn route_wire(
-    nodes: &[i32],
-    order: usize,
-    path: &[u32],
-    sx: u32,
-    sy: u32,
-    ex: u32,
-    ey: u32,
-    along: bool,
-    root: bool,
-    junction: Junction,
-    x: &mut [i32],
-    y: &mut [i32],
-    letters: &mut [u8],
-    n: usize,
-    ends: &mut [u32],
-    m: usize,
-) -> Step
-    requires path_on { PathOn order nodes.now path.now }
-    requires room { Room (length x.old) (length y.old) (length letters.old) }
-    requires n_bound { (n ≤ 512) × (m ≤ 4096) × (16384 ≤ length ends.old) }
-    ensures { tried result.number (wires_out x.new y.new letters.new result.n ends.new result.m) ≡ route_wire (path_in order nodes.now path.now) sx sy ex ey along root junction (wires_in x.old y.old letters.old n ends.old m) }
+    wires: &mut Wires,
+    line: Line,
+    way: Fallback,
+    is_root: bool,
+    junction: Option<JunctionKind>,
+) -> Result<(), Refusal>
+    ensures value { tried (number_of result) (wires_of wires.new) ≡ route_wire (line_in line.entry) way.start.x way.start.y way.end.x way.end.y way.along is_root junction (wires_of wires.old) }
+    ensures kept { KeptWires wires.old wires.new }
 {
-    if path.len() == 0 {
-        return fallback_wire(sx, sy, ex, ey, along, junction, x, y, letters, n, ends, m);
+    if line.path.len() == 0 {
+        return fallback_wire(wires, way, junction);
     }
-    line_wire(
-        nodes, order, path, root, junction, x, y, letters, n, ends, m,
-    )
+    line_wire(wires, line, is_root, junction)
 }
 
-// The end that a branch from s joins.
-fn joined_end(
-    nodes: &[i32],
-    order: usize,
-    path: &[u32],
-    sx: u32,
-    sy: u32,
-    ends: &[u32],
-    m: usize,
-) -> usize
-    requires path_on { PathOn order nodes.now path.now }
-    requires m_nonzero { (0 < m) × (m ≤ 4096) × (16384 ≤ length ends.now) }
-    ensures { (result ≡ joined_end (path_in order nodes.now path.now) sx sy (ends_of ends.now m)) × (result < m) }
+// The end that a branch from `start` joins.
+fn joined_end(wires: &Wires, line: Line, start: Place) -> End
+    requires { 0 < wires.now.m }
+    ensures { JoinedEnd (line_in line.entry) start.x start.y (wires_of wires.now).net result }
 {
-    if path.len() == 0 {
-        return wire::nearest_end(ends, m, sx, sy);
+    if line.path.len() == 0 {
+        let nearest = wire::nearest_end(wires.ends, wires.m, start);
+        return wires.ends[nearest];
     }
-    let last = path.len() - 1;
-    let px = wire::x_at(nodes, order, path, last);
-    let py = wire::y_at(nodes, order, path, last);
-    wire::junction_end(ends, m, px, py)
+    let end = line.place_at(line.path.len() - 1);
+    let first = wire::junction_end(wires.ends, wires.m, end);
+    wires.ends[first]
 }
 
-// The junction that an end of that kind gives.
-fn junction_of(kind: u32) -> Junction
-    ensures { result ≡ carried (eqb kind 67) }
-{
-    if kind == 67 {
-        return Junction::Corner;
+impl Joins<'_> {
+    // Adds a junction.
+    fn push(&mut self, holder: u32, joiner: u32, kind: JunctionKind)
+        requires { self.old.j < 256 }
+        ensures value { self.new.rows.now ≡ put_junction self.old.rows.now self.old.j holder joiner (letter_of (WireEnd (Some kind))) }
+        ensures count { self.new.j ≡ self.old.j + 1 }
+        ensures kept { KeptRows self.old self.new }
+    {
+        let letter = u8::from(VertexKind::WireEnd {
+            junction: Some(kind),
+        });
+        let at = 3 * self.j;
+        self.rows[at] = holder;
+        self.rows[at + 1] = joiner;
+        self.rows[at + 2] = letter as u32;
+        self.j += 1;
     }
-    Junction::LineSegment
 }
 
-// Writes the junction j.
-fn put_junction(joins: &mut [u32], j: usize, holder: u32, joiner: u32, kind: u32)
-    requires { (j < 256) × (768 ≤ length joins.old) }
-    ensures { joins.new ≡ put_junction joins.old j holder joiner kind }
-{
-    joins[3 * j] = holder;
-    joins[3 * j + 1] = joiner;
-    joins[3 * j + 2] = kind;
-}
-
-// Adds the branch from s and its junction, behind j of them.
+// Adds the branch from `start`, and its junction.
 pub fn route_branch(
-    nodes: &[i32],
-    order: usize,
-    path: &[u32],
-    sx: u32,
-    sy: u32,
+    wires: &mut Wires,
+    joins: &mut Joins,
+    line: Line,
+    start: Place,
     along: bool,
-    x: &mut [i32],
-    y: &mut [i32],
-    letters: &mut [u8],
-    n: usize,
-    ends: &mut [u32],
-    m: usize,
-    joins: &mut [u32],
-    j: usize,
-) -> Step
-    requires path_on { PathOn order nodes.now path.now }
-    requires room { Room (length x.old) (length y.old) (length letters.old) }
-    requires n_bound { (n ≤ 512) × (0 < m) × (m ≤ 4096) × (16384 ≤ length ends.old) }
-    requires j_bound { (j < 256) × (768 ≤ length joins.old) }
-    ensures m_value { tried result.number (wires_out x.new y.new letters.new result.n ends.new result.m) ≡ route_branch (path_in order nodes.now path.now) sx sy along (wires_in x.old y.old letters.old n ends.old m) }
-    ensures joins_value { joins.new ≡ join_branch (path_in order nodes.now path.now) sx sy along (wires_in x.old y.old letters.old n ends.old m) joins.old j }
+) -> Result<(), Refusal>
+    requires { (0 < wires.old.m) × (joins.old.j < 256) }
+    ensures value { tried (number_of result) (wires_of wires.new) ≡ route_branch (line_in line.entry) start.x start.y along (wires_of wires.old) }
+    ensures joins_value { joins.new.rows.now ≡ join_branch (line_in line.entry) start.x start.y along (wires_of wires.old) joins.old.rows.now joins.old.j }
+    ensures count { joins.new.j ≡ cond (eqb (number_of result) 0) (joins.old.j + 1) joins.old.j }
+    ensures kept { KeptWires wires.old wires.new }
+    ensures kept_rows { KeptRows joins.old joins.new }
 {
-    let e = joined_end(nodes, order, path, sx, sy, ends, m);
-    let ex = ends[4 * e];
-    let ey = ends[4 * e + 1];
-    let holder = ends[4 * e + 2];
-    let kind = ends[4 * e + 3];
-    let junction = junction_of(kind);
-    let step = route_wire(
-        nodes, order, path, sx, sy, ex, ey, along, false, junction, x, y, letters, n, ends, m,
-    );
-    if step.number != 0 {
-        return step;
-    }
-    let last = step.n - 1;
-    put_junction(joins, j, holder, last as u32, kind);
-    step
+    let end = joined_end(wires, line, start);
+    let way = Fallback {
+        start,
+        end: end.at,
+        along,
+    };
+    route_wire(wires, line, way, false, Some(end.kind))?;
+    joins.push(end.vertex, (wires.n - 1) as u32, end.kind);
+    Ok(())
 }

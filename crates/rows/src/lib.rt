@@ -14,13 +14,13 @@ pub fn put(d: &mut [u32], at: usize, row: &[u32])
     d[at..at + row.len()].copy_from_slice(row);
 }
 
-// The first row of an area whose first word is key.
+// The first of an area's first n rows whose first word is key.
 #[tactic(auto, using(crate::proofs::Rows::searches))]
-pub fn find(area: &[u32], w: usize, key: u32) -> Option<usize>
-    requires { (0 < w) × (1 + count area.now * w ≤ length area.now) }
-    ensures { result ≡ found key (keys w (count area.now) area.now) }
+pub fn find(area: &[u32], w: usize, n: usize, key: u32) -> Option<usize>
+    requires { (0 < w) × (1 + n * w ≤ length area.now) }
+    ensures { result ≡ found key (keys w n area.now) }
 {
-    for i in 0..area[0] as usize {
+    for i in 0..n {
         if area[1 + i * w] == key {
             return Some(i);
         }
@@ -41,17 +41,15 @@ pub fn holds(area: &[u32], w: usize, key: u32) -> bool
     r
 }
 
-// Writes the first words of an area's rows side by side, and hands them back.
+// Writes the first words of an area's first n rows side by side.
 #[tactic(auto, using(crate::proofs::Rows::searches))]
-pub fn gather<'a>(area: &[u32], w: usize, words: &'a mut [u32]) -> &'a [u32]
-    requires { (0 < w) × (1 + count area.now * w ≤ length area.now) × (count area.now ≤ length words.old) }
-    ensures { result.now ≡ keys w (count area.now) area.now }
+pub fn gather(area: &[u32], w: usize, n: usize, words: &mut [u32])
+    requires { (0 < w) × (1 + n * w ≤ length area.now) × (n ≤ length words.old) }
+    ensures { take n words.new ≡ keys w n area.now }
 {
-    let n = area[0] as usize;
     for i in 0..n {
         words[i] = area[1 + i * w];
     }
-    &words[..n]
 }
 
 // Whether key is among the words, looking at all of them.

@@ -1,15 +1,12 @@
 -- A walk: it takes no node away, and in its loop what is left to do from here gives what the whole gives.
 use mathlib.Core.Path.{◌≡◌, sym, ◌∙◌}
 use mathlib.Core.Bool.{Bool, true, false, cond}
-use mathlib.Core.List.{List}
 use Prim.Native.Nat.{ℕ, zero, suc, ◌+◌, ◌-◌, ◌<◌, ◌≤◌}
 use native.Mathlib.Omega.{arith}
 use borrow.Author.Tests.{eq-eqb, ne_eqb}
 use lib.Dec.{eqb, ltb}
-use lib.IntN.{ℤ}
 use Rattle.nodes.specs.Graph.{none, Graph, onward, find, place, link}
-use Rattle.nodes.specs.Columns.{whole, graph}
-use Rattle.nodes.proofs.Nodes.{cond_ind, place-grows, onward-first}
+use Rattle.nodes.proofs.Nodes.{cond_ind, place-grows}
 use Rattle.scan.specs.Walk.{Way, find_on, place_on, next, step, walk}
 
 pub place_on-grows : (g : Graph) (d a c : ℕ) → (g.count ≤ (place_on g d a c).count) × (find_on g d a c < (place_on g d a c).count)
@@ -53,7 +50,6 @@ walk-full w g prev k (suc m) h =
 
 pub record Walking (w : Way) (g₀ : Graph) (start m : ℕ) (g : Graph) (prev k : ℕ) : Type 0 where
   pub reached : k ≤ m
-  pub few : g.count ≤ 4096
   pub inside : prev < g.count
   pub rest : walk w g prev k (m - k) ≡ walk w g₀ start 0 m
 
@@ -64,17 +60,17 @@ module _ {w : Way} {g₀ : Graph} {start m : ℕ} {g : Graph} {prev k : ℕ} (i 
   pub walk-crowded : k < m → 4096 < (step w g prev k).count → 4096 < (walk w g₀ start 0 m).count
   walk-crowded h l = rw (← i.rest) (omega (arith, walk-full w g prev k (m - k) (omega arith)))
 
-  module _ (n : ℕ) (l : List ℤ) (j : ℕ) (h : k < m) (is : j ≡ next w g k) (within : j < n) (few : n ≤ 4096) (same : graph n l ≡ step w g prev k) (dir : w.dir < 4) where
-    seen : onward (step w g prev k) w.dir (next w g k) ≡ onward (whole l) w.dir j
-    seen = rw (← same, ← is) (onward-first n (whole l) w.dir j within dir)
+  module _ (v : Graph) (j : ℕ) (h : k < m) (is : j ≡ next w g k) (same : v ≡ step w g prev k) where
+    seen : onward (step w g prev k) w.dir (next w g k) ≡ onward v w.dir j
+    seen = rw (← same, ← is)
 
-    pub walk-stopped : (onward (whole l) w.dir j ≡ none → ⊥) → graph n l ≡ walk w g₀ start 0 m
+    pub walk-stopped : (onward v w.dir j ≡ none → ⊥) → v ≡ walk w g₀ start 0 m
     walk-stopped e = same ∙ sym (walk-last w g prev k (m - k) (omega arith) (λ q. e (sym seen ∙ q))) ∙ i.rest
 
-    pub walk-on : onward (whole l) w.dir j ≡ none → Walking w g₀ start m (graph n l) j (k + 1)
-    walk-on e =
+    pub walk-on : j < v.count → onward v w.dir j ≡ none → Walking w g₀ start m v j (k + 1)
+    walk-on within e =
         let q : m - (k + 1) ≡ m - k - 1 = omega arith in
-        record { reached = omega arith; few = few; inside = within; rest = rw (q, same, is) (sym (walk_more w g prev k (m - k) (omega arith) (seen ∙ e)) ∙ i.rest) }
+        record { reached = omega arith; inside = within; rest = rw (q, same, is) (sym (walk_more w g prev k (m - k) (omega arith) (seen ∙ e)) ∙ i.rest) }
 
-pub walk-begin : (w : Way) (g : Graph) (start m : ℕ) → g.count ≤ 4096 → start < g.count → Walking w g start m g start 0
-walk-begin w g start m h l = let e : m - 0 ≡ m = omega arith in record { reached = omega arith; few = h; inside = l; rest = rw e }
+pub walk-begin : (w : Way) (g : Graph) (start m : ℕ) → start < g.count → Walking w g start m g start 0
+walk-begin w g start m l = let e : m - 0 ≡ m = omega arith in record { reached = omega arith; inside = l; rest = rw e }

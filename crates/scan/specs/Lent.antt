@@ -1,14 +1,14 @@
--- What the functions are lent, and what they answer.
-use Rattle.std.specs.Prelude.{◌≡◌, List, ℕ, ◌<◌, ◌≤◌, ℤ, length, Option, MatchOption}
+-- What the functions are lent, and what they keep.
+use Rattle.std.specs.Prelude.{◌≡◌, List, ℕ, length}
 use Rattle.fixed.specs.declared.Anchor.{Anchor as Lent}
 use Rattle.fixed.specs.declared.PaddedBox.{PaddedBox}
 use Rattle.fixed.specs.Boxes.{min_xs, min_ys, max_xs, max_ys, anchor_xs, anchor_ys, directions_of, ignored_of}
 use Rattle.sightline.specs.Sight.{Rising}
 use Rattle.sightline.specs.Beyond.{index}
-use Rattle.nodes.specs.declared.Spot.{Spot}
-use Rattle.nodes.specs.Graph.{Graph, NODES}
-use Rattle.nodes.specs.Columns.{graph}
+use Rattle.nodes.specs.Graph.{Graph}
+use Rattle.nodes.specs.Columns.{graph_of}
 use Rattle.nodes.specs.Map.{Keyed}
+use Rattle.scan.specs.declared.Builder.{Builder}
 use Rattle.scan.specs.declared.Page.{Page as LentPage}
 use Rattle.scan.specs.declared.Way.{Way as LentWay}
 use Rattle.scan.specs.Walk.{Way}
@@ -38,25 +38,12 @@ pub record Paged (p : Page) : Type 0 where
   pub x_rising : Rising p.axis_x
   pub y_rising : Rising p.axis_y
 
--- the graph g is in the list, as its first n nodes
-pub record Held (g : Graph) (nodes : List ℤ) (n : ℕ) : Type 0 where
-  pub few : n ≤ NODES
-  pub same : graph n nodes ≡ g
+-- the graph so far
+abbrev pub graph_in : Builder → Graph
+graph_in b = graph_of b.graph.now
 
--- and its places are in the map
-pub record Mapped (g : Graph) (nodes : List ℤ) (map : List ℕ) (n : ℕ) : Type 0 where
-  pub held : Held g nodes n
-  pub keyed : Keyed map nodes n
-
--- what a step that may find no room answers: nothing if the graph that it is to make has more than 4,096 nodes, else that graph's count
-abbrev pub Built : Option ℕ → Graph → List ℤ → List ℕ → Type 0
-Built r g nodes map = MatchOption r (NODES < g.count) (Mapped g nodes map)
-
--- the same of a node met or made: its index, which is i, too
-pub record Spotted (i : ℕ) (g : Graph) (nodes : List ℤ) (map : List ℕ) (s : Spot) : Type 0 where
-  pub is : s.index ≡ i
-  pub within : s.index < s.count
-  pub mapped : Mapped g nodes map s.count
-
-abbrev pub Met : Option Spot → ℕ → Graph → List ℤ → List ℕ → Type 0
-Met r i g nodes map = MatchOption r (NODES < g.count) (Spotted i g nodes map)
+-- the page and the graph are the same lent ones, and the graph's places are in the map
+pub record Kept (v w : Builder) : Type 0 where
+  pub same_page : w.page ≡ v.page
+  pub same_graph : w.graph.ghost_name ≡ v.graph.ghost_name
+  pub keyed : Keyed w.map (graph_in w)

@@ -1,28 +1,27 @@
 // Scans over the axis lists, and the graph that they build.
 #![tactic(auto)]
 
-ghost use Rattle.std.specs.Prelude.{◌≡◌, ◌<◌, ◌≤◌, cond, ltb, length, MatchOption};
+ghost use Rattle.std.specs.Prelude.{◌≡◌, ◌<◌, ◌≤◌, cond, ltb, length};
 ghost use Rattle.sightline.specs.Sight.{Rising};
 ghost use Rattle.sightline.specs.Beyond.{index, axis_of};
 ghost use Rattle.sightline.specs.Lent.{line};
-ghost use Rattle.nodes.specs.Graph.{NODES, find, place};
-ghost use Rattle.nodes.specs.Columns.{GRAPH_WORDS, graph};
+ghost use Rattle.nodes.specs.Graph.{empty};
+ghost use Rattle.nodes.specs.Columns.{graph_of};
+ghost use Rattle.nodes.specs.Lent.{Built, Met};
 ghost use Rattle.nodes.specs.Map.{Keyed};
 ghost use Rattle.scan.specs.Walk.{along, room, next, step, walk, reach};
 ghost use Rattle.scan.specs.Scan.{has, toward, scans, scan_anchor, build_nodes, build};
-ghost use Rattle.scan.specs.Lent.{Held, Built, Met, way_in, page_in, anchor_in, Paged, anchors as anchors_of};
+ghost use Rattle.scan.specs.Lent.{way_in, page_in, anchor_in, graph_in, Paged, Kept, anchors as anchors_of};
 
 use fixed::{Anchor, Axis, PaddedBox};
-use nodes::Spot;
-use sightline::Direction;
+use nodes::{Graph, Map};
+use sightline::{Direction, Line};
 
-// All four directions, and the mark of an explicit node.
+// The mark of all four directions.
 const ALL: u32 = 15;
 
-const EXPLICIT: u32 = 16;
-
 // The boxes of a page and its axis lists.
-#[derive(Clone, Copy)]
+#[derive(Clone, Copy, Debug, PartialEq, Eq)]
 pub struct Page<'a> {
     pub boxes: &'a [PaddedBox],
     pub ax: &'a [u32],
@@ -30,7 +29,7 @@ pub struct Page<'a> {
 }
 
 // The way of a scan: its direction, the coordinate across it, the axis list that it follows, and the anchor's index on that list.
-#[derive(Clone, Copy)]
+#[derive(Clone, Copy, Debug, PartialEq, Eq)]
 struct Way<'a> {
     dir: Direction,
     across: u32,
@@ -38,114 +37,66 @@ struct Way<'a> {
     from: usize,
 }
 
-// The coordinate of the step k.
-#[tactic(auto, using(crate::proofs::Reaches::ways))]
-fn along(way: Way, k: usize) -> u32
-    requires { (way.from < length way.axis.now) × (k < room (index way.dir) way.from (length way.axis.now)) }
-    ensures { result ≡ along way.entry.axis.now (index way.entry.dir) way.entry.from k }
-{
-    if way.dir.is_ahead() {
-        way.axis[way.from + (k + 1)]
-    } else {
-        way.axis[way.from - (k + 1)]
-    }
+// An anchor that scans: its node, and its indices on the axis lists.
+#[derive(Clone, Copy, Debug, PartialEq, Eq)]
+struct Start {
+    anchor: Anchor,
+    node: usize,
+    i: usize,
+    j: usize,
 }
 
-// The place at the coordinate c.
-#[tactic(auto, using(crate::proofs::Reaches::sides))]
-fn place_at(way: Way, c: u32) -> (u32, u32)
-    ensures x { result.0 ≡ cond (ltb (index way.entry.dir) 2) c way.entry.across }
-    ensures y { result.1 ≡ cond (ltb (index way.entry.dir) 2) way.entry.across c }
-{
-    match way.dir.axis() {
-        Axis::X => (c, way.across),
-        Axis::Y => (way.across, c),
-    }
+// The graph of a page while it is built, and the map of its places.
+#[derive(Drop)]
+struct Builder<'a> {
+    page: Page<'a>,
+    graph: &'a mut Graph,
+    map: Map,
 }
 
-// How many coordinates next to the anchor are clear.
-fn reach(way: Way, boxes: &[PaddedBox], anchor: u32, ignore: usize) -> usize
-    requires rising { Rising way.axis.now }
-    requires from_in { way.from < length way.axis.now }
-    ensures { result ≡ reach (line boxes.now (axis_of way.entry.dir) way.entry.across ignore) anchor (index way.entry.dir) way.entry.axis.now way.entry.from }
-{
-    let part = sightline::beyond(way.axis, way.dir, way.from);
-    let ahead = way.dir.is_ahead();
-    let cut = sightline::cutoff(
-        boxes,
-        way.dir.axis(),
-        way.across,
-        anchor,
-        part,
-        0,
-        ignore,
-        ahead,
-    );
-    if ahead { cut } else { way.from - cut }
-}
-
-// The node at (x, y), met or made, with the mark m: nothing where there is no room for another.
-fn place(nodes: &mut [i32], map: &mut [u32], n: usize, x: u32, y: u32, m: u32) -> Option<Spot>
-    requires in_bounds { GRAPH_WORDS ≤ length nodes.old }
-    requires n_bound { n ≤ NODES }
-    requires keyed { Keyed map.old nodes.old n }
-    ensures { Met result (find (graph n nodes.old) x y) (place (graph n nodes.old) x y m) nodes.new map.new }
-{
-    let spot = nodes::place(nodes, map, n, x, y, m);
-    if spot.count <= nodes::NODES {
-        Some(spot)
-    } else {
-        None
-    }
-}
-
-// The step k of a scan: the node there is met or made, and linked with the one before.
-fn step(
-    way: Way,
-    nodes: &mut [i32],
-    map: &mut [u32],
-    n: usize,
-    prev: usize,
-    k: usize,
-) -> Option<Spot>
-    requires in_bounds { GRAPH_WORDS ≤ length nodes.old }
-    requires n_bound { (n ≤ NODES) × (prev < n) }
-    requires from_in { (way.from < length way.axis.now) × (k < room (index way.dir) way.from (length way.axis.now)) }
-    requires keyed { Keyed map.old nodes.old n }
-    ensures { Met result (next (way_in way.entry) (graph n nodes.old) k) (step (way_in way.entry) (graph n nodes.old) prev k) nodes.new map.new }
-{
-    let (x, y) = place_at(way, along(way, k));
-    let spot = place(nodes, map, n, x, y, ALL)?;
-    nodes::link(nodes, way.dir.index(), prev, spot.index);
-    Some(spot)
-}
-
-// At most m steps; it ends at a node that has a link onward.
-fn walk(
-    way: Way,
-    nodes: &mut [i32],
-    map: &mut [u32],
-    n: usize,
-    start: usize,
-    m: usize,
-) -> Option<usize>
-    requires in_bounds { GRAPH_WORDS ≤ length nodes.old }
-    requires n_bound { (n ≤ NODES) × (start < n) }
-    requires from_in { (way.from < length way.axis.now) × (m ≤ room (index way.dir) way.from (length way.axis.now)) }
-    requires keyed { Keyed map.old nodes.old n }
-    ensures { Built result (walk (way_in way.entry) (graph n nodes.old) start 0 m) nodes.new map.new }
-{
-    let mut count = n;
-    let mut prev = start;
-    for k in 0..m {
-        let spot = step(way, nodes, map, count, prev, k)?;
-        count = spot.count;
-        prev = spot.index;
-        if nodes::link_of(nodes, prev, way.dir.index()) != nodes::NOWHERE {
-            return Some(count);
+impl Way<'_> {
+    // The coordinate of the step k.
+    #[tactic(auto, using(crate::proofs::Reaches::ways))]
+    fn along(self, k: usize) -> u32
+        requires { (self.from < length self.axis.now) × (k < room (index self.dir) self.from (length self.axis.now)) }
+        ensures { result ≡ along self.entry.axis.now (index self.entry.dir) self.entry.from k }
+    {
+        if self.dir.is_ahead() {
+            self.axis[self.from + (k + 1)]
+        } else {
+            self.axis[self.from - (k + 1)]
         }
     }
-    Some(count)
+
+    // The place at the coordinate c.
+    #[tactic(auto, using(crate::proofs::Reaches::sides))]
+    fn place_at(self, c: u32) -> (u32, u32)
+        ensures x { result.0 ≡ cond (ltb (index self.entry.dir) 2) c self.entry.across }
+        ensures y { result.1 ≡ cond (ltb (index self.entry.dir) 2) self.entry.across c }
+    {
+        match self.dir.axis() {
+            Axis::X => (c, self.across),
+            Axis::Y => (self.across, c),
+        }
+    }
+
+    // How many coordinates next to the anchor are clear.
+    fn reach(self, boxes: &[PaddedBox], anchor: u32, ignore: usize) -> usize
+        requires rising { Rising self.axis.now }
+        requires from_in { self.from < length self.axis.now }
+        ensures { result ≡ reach (line boxes.now (axis_of self.entry.dir) self.entry.across ignore) anchor (index self.entry.dir) self.entry.axis.now self.entry.from }
+    {
+        let line = Line {
+            boxes,
+            along: self.dir.axis(),
+            at: self.across,
+            ignore,
+        };
+        let part = sightline::beyond(self.axis, self.dir, self.from);
+        let ahead = self.dir.is_ahead();
+        let cut = line.cutoff(anchor, part, 0, ahead);
+        if ahead { cut } else { self.from - cut }
+    }
 }
 
 // Whether the direction d is among dirs.
@@ -156,131 +107,139 @@ fn has(dirs: u32, d: Direction) -> bool
     dirs & d.bit() != 0
 }
 
-// The scan of an anchor in the direction d, if that is among its directions. Its node is `node`, and its indices on the axis lists are i and j.
-fn toward(
-    page: Page,
-    nodes: &mut [i32],
-    map: &mut [u32],
-    n: usize,
-    anchor: Anchor,
-    node: usize,
-    i: usize,
-    j: usize,
-    dir: Direction,
-) -> Option<usize>
-    requires paged { Paged (page_in page) }
-    requires in_bounds { GRAPH_WORDS ≤ length nodes.old }
-    requires n_bound { (n ≤ NODES) × (node < n) × (i < length page.ax.now) × (j < length page.ay.now) }
-    requires keyed { Keyed map.old nodes.old n }
-    ensures { Built result (toward (page_in page.entry) (anchor_in anchor) node i j (index dir) (graph n nodes.old)) nodes.new map.new }
-{
-    if !has(anchor.directions, dir) {
-        return Some(n);
+impl Builder<'_> {
+    // The step k of a scan: the node there is met or made, and linked with the one before.
+    fn step(&mut self, way: Way, prev: usize, k: usize) -> Option<usize>
+        requires prev_in { prev < self.old.graph.now.count }
+        requires from_in { (way.from < length way.axis.now) × (k < room (index way.dir) way.from (length way.axis.now)) }
+        requires keyed { Keyed self.old.map (graph_in self.old) }
+        ensures met { Met result (next (way_in way.entry) (graph_in self.old) k) (graph_in self.new) (step (way_in way.entry) (graph_in self.old) prev k) }
+        ensures kept { Kept self.old self.new }
+    {
+        let (x, y) = way.place_at(way.along(k));
+        let node = self.graph.place(&mut self.map, x, y, ALL)?;
+        self.graph.link_both(way.dir.index(), prev, node);
+        Some(node)
     }
-    let (way, at) = match dir.axis() {
-        Axis::X => (
-            Way {
-                dir,
-                across: anchor.y,
-                axis: page.ax,
-                from: i,
-            },
-            anchor.x,
-        ),
-        Axis::Y => (
-            Way {
-                dir,
-                across: anchor.x,
-                axis: page.ay,
-                from: j,
-            },
-            anchor.y,
-        ),
-    };
-    let m = reach(way, page.boxes, at, anchor.ignored as usize);
-    walk(way, nodes, map, n, node, m)
-}
 
-// The scans of an anchor in its directions.
-fn scans(
-    page: Page,
-    nodes: &mut [i32],
-    map: &mut [u32],
-    n: usize,
-    anchor: Anchor,
-    node: usize,
-    i: usize,
-    j: usize,
-) -> Option<usize>
-    requires paged { Paged (page_in page) }
-    requires in_bounds { GRAPH_WORDS ≤ length nodes.old }
-    requires n_bound { (n ≤ NODES) × (node < n) × (i < length page.ax.now) × (j < length page.ay.now) }
-    requires keyed { Keyed map.old nodes.old n }
-    ensures { Built result (scans (page_in page.entry) (anchor_in anchor) node i j (graph n nodes.old)) nodes.new map.new }
-{
-    let mut count = n;
-    for dir in Direction::ALL {
-        count = toward(page, nodes, map, count, anchor, node, i, j, dir)?;
+    // At most m steps; it ends at a node that has a link onward.
+    fn walk(&mut self, way: Way, start: usize, m: usize) -> Option<()>
+        requires start_in { start < self.old.graph.now.count }
+        requires from_in { (way.from < length way.axis.now) × (m ≤ room (index way.dir) way.from (length way.axis.now)) }
+        requires keyed { Keyed self.old.map (graph_in self.old) }
+        ensures built { Built result (graph_in self.new) (walk (way_in way.entry) (graph_in self.old) start 0 m) }
+        ensures kept { Kept self.old self.new }
+    {
+        let mut prev = start;
+        for k in 0..m {
+            prev = self.step(way, prev, k)?;
+            if self.graph.link(prev, way.dir.index()) != nodes::NONE {
+                return Some(());
+            }
+        }
+        Some(())
     }
-    Some(count)
-}
 
-// The scans of an anchor that has a node and stands on both axis lists.
-fn scan_anchor(
-    page: Page,
-    nodes: &mut [i32],
-    map: &mut [u32],
-    n: usize,
-    anchor: Anchor,
-) -> Option<usize>
-    requires paged { Paged (page_in page) }
-    requires in_bounds { GRAPH_WORDS ≤ length nodes.old }
-    requires n_bound { n ≤ NODES }
-    requires keyed { Keyed map.old nodes.old n }
-    ensures { Built result (scan_anchor (page_in page.entry) (anchor_in anchor) (graph n nodes.old)) nodes.new map.new }
-{
-    let node = nodes::look_up(map, nodes, n, anchor.x, anchor.y);
-    let i = axis::index(page.ax, anchor.x);
-    let j = axis::index(page.ay, anchor.y);
-    if node < n && i < page.ax.len() && j < page.ay.len() {
-        return scans(page, nodes, map, n, anchor, node, i, j);
-    }
-    Some(n)
-}
-
-// A node for each anchor's place.
-fn build_nodes(
-    anchors: &[Anchor],
-    explicit: usize,
-    nodes: &mut [i32],
-    map: &mut [u32],
-) -> Option<usize>
-    requires in_bounds { GRAPH_WORDS ≤ length nodes.old }
-    requires keyed { Keyed map.old nodes.old 0 }
-    ensures { Built result (build_nodes (anchors_of anchors.now explicit)) nodes.new map.new }
-{
-    let mut count = 0;
-    for (k, anchor) in anchors.iter().enumerate() {
-        let mark = if k < explicit {
-            anchor.directions | EXPLICIT
-        } else {
-            anchor.directions
+    // The scan of an anchor in a direction, if that is among its directions.
+    fn toward(&mut self, start: Start, dir: Direction) -> Option<()>
+        requires paged { Paged (page_in self.old.page) }
+        requires start_in { (start.node < self.old.graph.now.count) × (start.i < length self.old.page.ax.now) × (start.j < length self.old.page.ay.now) }
+        requires keyed { Keyed self.old.map (graph_in self.old) }
+        ensures built { Built result (graph_in self.new) (toward (page_in self.old.page) (anchor_in start.anchor) start.node start.i start.j (index dir) (graph_in self.old)) }
+        ensures kept { Kept self.old self.new }
+    {
+        let anchor = start.anchor;
+        if !has(anchor.directions, dir) {
+            return Some(());
+        }
+        let (way, at) = match dir.axis() {
+            Axis::X => (
+                Way {
+                    dir,
+                    across: anchor.y,
+                    axis: self.page.ax,
+                    from: start.i,
+                },
+                anchor.x,
+            ),
+            Axis::Y => (
+                Way {
+                    dir,
+                    across: anchor.x,
+                    axis: self.page.ay,
+                    from: start.j,
+                },
+                anchor.y,
+            ),
         };
-        count = place(nodes, map, count, anchor.x, anchor.y, mark)?.count;
+        let m = way.reach(self.page.boxes, at, anchor.ignored as usize);
+        self.walk(way, start.node, m)
     }
-    Some(count)
+
+    // The scans of an anchor in its directions.
+    fn scans(&mut self, start: Start) -> Option<()>
+        requires paged { Paged (page_in self.old.page) }
+        requires start_in { (start.node < self.old.graph.now.count) × (start.i < length self.old.page.ax.now) × (start.j < length self.old.page.ay.now) }
+        requires keyed { Keyed self.old.map (graph_in self.old) }
+        ensures built { Built result (graph_in self.new) (scans (page_in self.old.page) (anchor_in start.anchor) start.node start.i start.j (graph_in self.old)) }
+        ensures kept { Kept self.old self.new }
+    {
+        for dir in Direction::ALL {
+            self.toward(start, dir)?;
+        }
+        Some(())
+    }
+
+    // The scans of an anchor that has a node and stands on both axis lists.
+    fn scan_anchor(&mut self, anchor: Anchor) -> Option<()>
+        requires paged { Paged (page_in self.old.page) }
+        requires keyed { Keyed self.old.map (graph_in self.old) }
+        ensures built { Built result (graph_in self.new) (scan_anchor (page_in self.old.page) (anchor_in anchor) (graph_in self.old)) }
+        ensures kept { Kept self.old self.new }
+    {
+        if let Some(node) = self.map.look_up(self.graph, anchor.x, anchor.y) {
+            let i = axis::index(self.page.ax, anchor.x);
+            let j = axis::index(self.page.ay, anchor.y);
+            if i < self.page.ax.len() && j < self.page.ay.len() {
+                return self.scans(Start { anchor, node, i, j });
+            }
+        }
+        Some(())
+    }
+
+    // A node for each anchor's place, in a graph of none.
+    fn build_nodes(&mut self, anchors: &[Anchor], explicit: usize) -> Option<()>
+        requires none { graph_in self.old ≡ empty }
+        requires keyed { Keyed self.old.map (graph_in self.old) }
+        ensures built { Built result (graph_in self.new) (build_nodes (anchors_of anchors.now explicit)) }
+        ensures kept { Kept self.old self.new }
+    {
+        for (k, anchor) in anchors.iter().enumerate() {
+            let mark = if k < explicit {
+                anchor.directions | nodes::EXPLICIT
+            } else {
+                anchor.directions
+            };
+            self.graph.place(&mut self.map, anchor.x, anchor.y, mark)?;
+        }
+        Some(())
+    }
 }
 
-// The graph, not pruned: how many nodes it has, or nothing where it would have more than NODES. The map of its places is made here.
-pub fn build(page: Page, anchors: &[Anchor], explicit: usize, nodes: &mut [i32]) -> Option<usize>
-    requires paged { Paged (page_in page) }
-    requires in_bounds { GRAPH_WORDS ≤ length nodes.old }
-    ensures { MatchOption result (NODES < (build (page_in page.entry) (anchors_of anchors.now explicit)).count) (Held (build (page_in page.entry) (anchors_of anchors.now explicit)) nodes.new) }
+// The graph, not pruned: nothing where it would have more than NODES nodes. What the graph held before is lost.
+pub fn build(page: Page, anchors: &[Anchor], explicit: usize, graph: &mut Graph) -> Option<()>
+    requires { Paged (page_in page) }
+    ensures { Built result (graph_of graph.new) (build (page_in page.entry) (anchors_of anchors.now explicit)) }
 {
-    let mut map = [0; nodes::MAP];
-    let mut count = build_nodes(anchors, explicit, nodes, &mut map)?;
+    graph.clear();
+    let mut builder = Builder {
+        page,
+        graph,
+        map: Map::new(),
+    };
+    builder.build_nodes(anchors, explicit)?;
     for anchor in anchors {
-        count = scan_anchor(page, nodes, &mut map, count, *anchor)?;
+        builder.scan_anchor(*anchor)?;
     }
-    Some(count)
+    Some(())
 }

@@ -1,38 +1,30 @@
+// A search on a built graph, with its outputs.
 #![tactic(auto)]
 
-use path_finding::Answer;
-
-// A search on a built graph, with its outputs.
-ghost use Rattle.std.specs.Prelude.{◌≡◌, ◌≤◌, ◌<◌, length};
-ghost use Rattle.fixed.specs.Up.{ups};
-ghost use Rattle.nodes.specs.Columns.{GRAPH_WORDS, graph, graph_in};
+ghost use Rattle.std.specs.Prelude.{◌≤◌, ◌<◌, length};
 ghost use Rattle.astar.specs.Reached.{Ready};
-ghost use Rattle.path_finding.specs.Lent.{Room};
-ghost use Rattle.search.specs.Searched.{Searched, Ended};
+ghost use Rattle.path_finding.specs.Lent.{graph_in, Kept, KeptOutput};
+ghost use Rattle.search.specs.Searched.{SearchedIn};
 
-// The line from the place (x, y) to one of the ends on a built graph, with zeros behind it. `cells`, `tree` and `list` are scratch.
+use book::Refusal;
+use path_finding::{Ends, Finder, Output};
+
+// The line from the place (x, y) to one of the ends, with zeros behind it: how many nodes it has. There are zeros alone if there is none.
 pub fn find_path(
-    nodes: &[i32],
-    n: usize,
+    finder: &mut Finder,
     x: u32,
     y: u32,
-    ex: &[i32],
-    ey: &[i32],
-    lx: &mut [i32],
-    ly: &mut [i32],
-    kinds: &mut [u8],
-    dirs: &mut [u8],
-    cells: &mut [u64],
-    tree: &mut [u64],
-    list: &mut [u32],
-) -> Answer
-    requires ready { (0 < n → Ready (graph n nodes.now)) × (GRAPH_WORDS ≤ length nodes.now) }
-    requires ended { Ended ex.now ey.now }
-    requires room { Room n (length ex.now) cells.old tree.old list.old }
-    ensures { Searched (graph_in n nodes.now) x y (ups ex.now) (ups ey.now) result.number result.nodes (ups lx.new) (ups ly.new) kinds.new dirs.new }
+    ends: Ends,
+    output: &mut Output,
+) -> Result<usize, Refusal>
+    requires ready { 0 < finder.old.graph.now.count → Ready (graph_in finder.old) }
+    requires room { length ends.x.now ≤ length finder.old.list.now }
+    ensures searched { SearchedIn (graph_in finder.old) x y ends.entry result output.new }
+    ensures kept { Kept finder.old finder.new }
+    ensures kept_output { KeptOutput output.old output.new }
 {
-    let a = path_finding::find_between(nodes, n, x, y, ex, ey, cells, tree, list);
-    let at = list.len() - a.nodes;
-    path_finding::write_line(nodes, n, &list[at..], lx, ly, kinds, dirs);
-    a
+    let found = finder.find_between(x, y, ends);
+    let at = finder.list.len() - found.unwrap_or(0);
+    output.write(finder.graph, &finder.list[at..]);
+    found
 }

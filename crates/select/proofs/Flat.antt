@@ -56,10 +56,7 @@ flat-list k blk h =
     ∙ part-part (start k) (size k) 1 (count (area k blk) * width k) blk (rows_in k (count (area k blk)) h)
 
 module _ (k : Kind) (ws : List ℕ) (v : valid (book_of ws) ≡ true) (a w n m : ℕ) (ea : a ≡ 1 + start k) (ew : w ≡ width k)
-    (en : n ≡ get_or ws a 0) (em : m ≡ a + 1 + n * w - (a + 1)) where
-  is : n ≡ length (list k (book_of ws).lists)
-  is = en ∙ count-desk k ws a ea
-
+    (is : n ≡ length (list k (book_of ws).lists)) (em : m ≡ a + 1 + n * w - (a + 1)) where
   few : n ≤ most k
   few = omega (arith, few-desk k ws v, is)
 

@@ -11,6 +11,14 @@ ghost use Rattle.select.specs.Page.{flat, page_of};
 use anchors::Records;
 use book::Kind;
 
+// How many records of that kind a desk has, valid or not.
+pub fn count_of(desk: &[u32], kind: Kind) -> usize
+    requires { DESK ≤ length desk.now }
+    ensures { result ≡ length (list kind (book_of desk.now).lists) }
+{
+    desk[1 + block::area_at(kind)] as usize
+}
+
 // The rows of that kind that a desk has.
 pub fn rows_of(desk: &[u32], kind: Kind) -> &[u32]
     requires in_bounds { DESK ≤ length desk.now }
@@ -18,7 +26,7 @@ pub fn rows_of(desk: &[u32], kind: Kind) -> &[u32]
     ensures { result.now ≡ flat (list kind (book_of desk.now).lists) }
 {
     let a = 1 + block::area_at(kind);
-    let n = desk[a] as usize;
+    let n = count_of(desk, kind);
     &desk[a + 1..a + 1 + n * kind.width()]
 }
 

@@ -3,40 +3,26 @@
 #![tactic(auto)]
 
 use fixed::PaddedBox;
+use sightline::Line;
 use std::io;
 
 // The origin of both axes.
 const ORIGIN: u32 = 2147483648;
 
-// Writes the coordinate x in steps, and whether it is clear.
-fn print(rt: &impl Print, x: u32, clear: bool) -> io::Result<()> {
-    if x < ORIGIN {
-        return Ok(());
-    }
-    let steps = x - ORIGIN;
-    if clear {
-        return println!(rt; "{steps}\tclear");
-    }
-    println!(rt; "{steps}\tblocked")
-}
-
-// Writes each of the coordinates.
+// Writes each of the coordinates in steps, and whether it is clear.
 fn show(rt: &impl Print, boxes: &[PaddedBox], coords: &[u32]) -> io::Result<()> {
+    let line = Line::level(boxes, ORIGIN, 1);
     for x in coords {
-        let clear = sightline::points_have_horizontal_sightline(boxes, ORIGIN, ORIGIN, *x, 1);
-        print(rt, *x, clear)?;
+        let clear = line.clear(ORIGIN, *x);
+        let word = if clear { "clear" } else { "blocked" };
+        println!(rt; "{}\t{word}", fixed::down(*x))?;
     }
     Ok(())
 }
 
 fn main(rt: HostRuntime) -> io::Result<()> {
     let rows = [1u32, 2147509248, 2147483648, 2147514368, 2147488768];
-    let mut boxes = [PaddedBox {
-        min_x: 0,
-        min_y: 0,
-        max_x: 0,
-        max_y: 0,
-    }; 1];
+    let mut boxes = [PaddedBox::BLANK; 1];
     sightline::pad_boxes(&mut boxes, &rows);
     let coords = [ORIGIN + 256, ORIGIN + 23039, ORIGIN + 23040, ORIGIN + 30000];
     show(&rt, &boxes, &coords)

@@ -1,7 +1,7 @@
 -- 01, 'Separation': the movement of a vertex pair.
-use Rattle.std.specs.Prelude.{Bool, true, false, cond, ◌&&◌, ◌||◌}
+use Rattle.std.specs.Prelude.{Bool, true, false, cond, None, Some, ◌&&◌, ◌||◌}
 use Rattle.vertex.specs.Kinds.{start, dummy, end}
-use Rattle.vertex.specs.declared.Junction.TheVariants.{None, Corner, LineSegment}
+use Rattle.vertex.specs.declared.JunctionKind.TheVariants.{Corner, LineSegment}
 use Rattle.vertex.specs.declared.VertexKind.{VertexKind}
 use Rattle.vertex.specs.declared.VertexKind.TheVariants.{WireStart, Dummy, Normal, WireEnd}
 use Rattle.tracks.specs.declared.types.Movement.{Movement}
@@ -13,8 +13,8 @@ on_corner (WireStart is_root) = false
 on_corner Dummy = false
 on_corner Normal = false
 on_corner (WireEnd None) = false
-on_corner (WireEnd Corner) = true
-on_corner (WireEnd LineSegment) = false
+on_corner (WireEnd (Some Corner)) = true
+on_corner (WireEnd (Some LineSegment)) = false
 
 -- an end, no junction
 abbrev pub no_junction : VertexKind → Bool
@@ -22,8 +22,8 @@ no_junction (WireStart is_root) = false
 no_junction Dummy = false
 no_junction Normal = false
 no_junction (WireEnd None) = true
-no_junction (WireEnd Corner) = false
-no_junction (WireEnd LineSegment) = false
+no_junction (WireEnd (Some Corner)) = false
+no_junction (WireEnd (Some LineSegment)) = false
 
 -- the table's rows in its order: the first that fits
 abbrev pub movement : VertexKind → VertexKind → Movement

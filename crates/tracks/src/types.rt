@@ -5,7 +5,8 @@ ghost use Rattle.std.specs.Prelude.{◌≡◌, ◌≤◌, length};
 ghost use Rattle.std.proofs.Props.{props};
 ghost use Rattle.vertex.specs.Pages.{Joined};
 
-const VERTICES: usize = 512;
+// The most vertices of a page.
+pub const VERTICES: usize = 512;
 
 // How a pair of vertices may move.
 #[derive(Clone, Copy, Debug, PartialEq, Eq)]
@@ -24,7 +25,7 @@ pub struct Extent {
 }
 
 // The vertices and junctions of a page as one axis goes: `along` its corridors and `across` them. `second` says that the pairs of the other axis come first.
-#[derive(Clone, Copy)]
+#[derive(Clone, Copy, Debug, PartialEq, Eq)]
 pub struct Axis<'a> {
     pub along: &'a [i32],
     pub across: &'a [i32],
@@ -36,8 +37,8 @@ pub struct Axis<'a> {
     pub ghost joined: { Joined (length across.now) junctions.now } by { Prim.hlevel props },
 }
 
-// The corridors of an axis: the keys of its pairs, by rise, of which there are `count`, and the extent of each pair.
-#[derive(Drop)]
+// The corridors of an axis: the keys of its pairs, by rise, of which there are `count`, and the extent of each pair. No heap: arrays and a count.
+#[derive(Debug, PartialEq, Eq, Drop)]
 pub struct Corridors {
     pub keys: [u64; VERTICES],
     pub count: usize,

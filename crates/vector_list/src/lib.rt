@@ -13,8 +13,7 @@ pub const LIST: usize = 2097152;
 
 const BASE: u64 = decimals::BASE;
 
-// 2^31, above which a coordinate is counted.
-const BIAS: u64 = 2147483648;
+const BIAS: u64 = decimals::BIAS as u64;
 
 // Room for a list.
 pub fn room() -> [u8; LIST]
@@ -77,7 +76,7 @@ pub fn field(list: &[u8], at: usize) -> Entry
     }
 }
 
-// A word's number, if there is one that is not negative; else the greatest word.
+// A word's number, if there is one that is not negative; else the greatest word. This and the next are no `From`: the types are std's.
 pub fn unsigned(word: Option<u64>) -> u32
     ensures { result ≡ unsigned word }
 {

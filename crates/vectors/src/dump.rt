@@ -1,10 +1,9 @@
 // Compares a graph's nodes, and a page's implicit anchors, with their lines of the list.
-ghost use Rattle.std.specs.Prelude.{◌<◌, ◌≤◌, length};
-ghost use Rattle.nodes.specs.Graph.{NODES};
-ghost use Rattle.nodes.specs.Columns.{GRAPH_WORDS};
+ghost use Rattle.std.specs.Prelude.{◌<◌};
 
 use crate::fields::Fields;
 use fixed::Anchor;
+use nodes::Graph;
 
 // Whether the next field is a neighbour.
 fn link_is(fields: &mut Fields, link: u32) -> bool {
@@ -15,33 +14,24 @@ fn link_is(fields: &mut Fields, link: u32) -> bool {
     }
 }
 
-// Whether the next four fields are the neighbours of the node i.
-fn links_are(fields: &mut Fields, nodes: &[i32], i: usize) -> bool
-    requires { (i < NODES) × (GRAPH_WORDS ≤ length nodes.now) }
-{
-    (0..4).all(|d| link_is(fields, nodes::link_word(nodes, i, d)))
-}
-
 // Whether the next line is the node i: its index, place, whether it is explicit, legal directions and neighbours.
-fn node_is(fields: &mut Fields, nodes: &[i32], i: usize) -> bool
-    requires { (i < NODES) × (GRAPH_WORDS ≤ length nodes.now) }
+fn node_is(fields: &mut Fields, graph: &Graph, i: usize) -> bool
+    requires { i < graph.now.count }
 {
-    let mark = nodes::mark_of(nodes, i);
+    let mark = graph.mark(i);
     fields.number_is(i as u32)
-        && fields.step_is(nodes::x_of(nodes, i))
-        && fields.step_is(nodes::y_of(nodes, i))
-        && fields.number_is(mark / 16)
-        && fields.number_is(mark % 16)
-        && links_are(fields, nodes, i)
+        && fields.step_is(graph.x(i))
+        && fields.step_is(graph.y(i))
+        && fields.number_is(mark / nodes::EXPLICIT)
+        && fields.number_is(mark % nodes::EXPLICIT)
+        && (0..4).all(|d| link_is(fields, graph.link(i, d)))
 }
 
-// Whether the list holds the lines of n nodes.
-pub fn nodes_are(list: &[u8], n: usize, nodes: &[i32]) -> bool
-    requires { (n ≤ NODES) × (GRAPH_WORDS ≤ length nodes.now) }
-{
+// Whether the list holds the lines of the graph's nodes.
+pub fn nodes_are(list: &[u8], graph: &Graph) -> bool {
     let mut fields = Fields::of(list);
-    for i in 0..n {
-        if !node_is(&mut fields, nodes, i) {
+    for i in 0..graph.count {
+        if !node_is(&mut fields, graph, i) {
             return false;
         }
     }

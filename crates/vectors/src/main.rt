@@ -15,7 +15,7 @@ use std::{fs, io};
 use tally::Tally;
 
 // The page that was read last: its section, whether its text was refused, and the desk with its records; and what was counted.
-#[derive(Drop)]
+#[derive(Debug, PartialEq, Eq, Drop)]
 struct Replay<'a> {
     page: Section<'a>,
     refused: bool,
@@ -81,6 +81,7 @@ fn main(rt: HostRuntime) -> io::Result<()> {
         desk: [0; desk::DESK],
         tally: Tally::default(),
     };
+    // A section says how long it is: no range counts so.
     while !rest.is_empty() {
         let (section, behind) = section::split(rest);
         replay.replay(&rt, section)?;

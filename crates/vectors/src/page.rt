@@ -1,8 +1,6 @@
 // Compares what a page gives with sections of the list: how many entries were compared, if none differs.
 ghost use Rattle.std.specs.Prelude.{◌≤◌, IfSome, length};
 ghost use Rattle.corridors.specs.Sizes.{ANCHORS};
-ghost use Rattle.nodes.specs.Graph.{NODES};
-ghost use Rattle.nodes.specs.Columns.{GRAPH_WORDS};
 ghost use Rattle.anchors.specs.Lent.{records_in};
 ghost use Rattle.page_graph.specs.Lent.{Asked};
 
@@ -10,23 +8,9 @@ use crate::dump;
 use crate::fields::Fields;
 use anchors::Records;
 use fixed::{Anchor, PaddedBox};
+use nodes::Graph;
 
 pub type Desk = [u32; desk::DESK];
-
-// What stands in a list before a box or an anchor is put there.
-const NO_BOX: PaddedBox = PaddedBox {
-    min_x: 0,
-    min_y: 0,
-    max_x: 0,
-    max_y: 0,
-};
-
-const NO_ANCHOR: Anchor = Anchor {
-    x: 0,
-    y: 0,
-    directions: 0,
-    ignored: nodes::NONE,
-};
 
 // The records of a desk, if it is valid.
 fn records(desk: &Desk) -> Option<Records>
@@ -44,49 +28,46 @@ fn implicit_anchors(desk: &Desk, list: &mut [Anchor]) -> Option<usize>
     ensures { IfSome result (λ n. n ≤ ANCHORS) }
 {
     let records = records(desk)?;
-    let mut padded = [NO_BOX; fixed::BOXES];
+    let mut padded = [PaddedBox::BLANK; fixed::BOXES];
     let boxes = &mut padded[..records.boxes.len() / anchors::BOX];
     sightline::pad_boxes(boxes, records.boxes);
     corridors::generate_implicit_anchors(boxes, list)
 }
 
-// The graph of a desk's page: how many nodes it has, if the page is not over a limit.
-fn graph_of(desk: &Desk, pruned: bool, nodes: &mut [i32]) -> Option<usize>
-    requires { GRAPH_WORDS ≤ length nodes.old }
-    ensures { IfSome result (λ n. n ≤ NODES) }
-{
-    page_graph::graph_of(records(desk)?, pruned, nodes)
+// The graph of a desk's page, if the page is not over a limit.
+fn graph_of(desk: &Desk, pruned: bool) -> Option<Graph> {
+    let mut graph = Graph::new();
+    page_graph::graph_of(records(desk)?, pruned, &mut graph)?;
+    Some(graph)
 }
 
 // Compares the implicit anchors.
 pub fn anchors(desk: &Desk, bytes: &[u8]) -> Option<usize> {
-    let mut list = [NO_ANCHOR; corridors::ANCHORS];
+    let mut list = [Anchor::BLANK; corridors::ANCHORS];
     let n = implicit_anchors(desk, &mut list)?;
     dump::anchors_are(bytes, &list[..n]).then_some(n)
 }
 
 // Compares the graph's nodes; the header says whether it is pruned.
 pub fn graph(desk: &Desk, mut header: Fields, bytes: &[u8]) -> Option<usize> {
-    let mut nodes = [0; nodes::GRAPH_WORDS];
-    let n = graph_of(desk, header.flag(), &mut nodes)?;
-    dump::nodes_are(bytes, n, &nodes).then_some(n)
+    let graph = graph_of(desk, header.flag())?;
+    dump::nodes_are(bytes, &graph).then_some(graph.count)
 }
 
 // Compares how many implicit anchors the page has, and how many nodes before and after pruning, with the header.
 pub fn counts(desk: &Desk, mut header: Fields) -> Option<usize> {
-    let mut list = [NO_ANCHOR; corridors::ANCHORS];
-    let mut nodes = [0; nodes::GRAPH_WORDS];
+    let mut list = [Anchor::BLANK; corridors::ANCHORS];
     let same = header.number_is(implicit_anchors(desk, &mut list)? as u32)
-        && header.number_is(graph_of(desk, false, &mut nodes)? as u32)
-        && header.number_is(graph_of(desk, true, &mut nodes)? as u32);
+        && header.number_is(graph_of(desk, false)?.count as u32)
+        && header.number_is(graph_of(desk, true)?.count as u32);
     same.then_some(0)
 }
 
 // Compares what is printed of a page text, byte by byte; the header says whether the graph is pruned and the wires separated.
 pub fn listing(text: &[u8], mut header: Fields, bytes: &[u8]) -> Option<usize> {
-    let prune = u32::from(header.flag());
-    let separate = u32::from(header.flag());
+    let pruned = header.flag();
+    let apart = header.flag();
     let mut out = [0; page_listing::ROOM];
-    let n = page_listing::list_page(text, prune, separate, &mut out);
+    let n = page_listing::list_page(text, pruned, apart, &mut out);
     (&out[..n] == bytes).then_some(n)
 }

@@ -4,13 +4,15 @@ ghost use Rattle.nodes.specs.Graph.{NODES};
 
 use crate::fields::Fields;
 use crate::page::Desk;
+use desk_search::Request;
 use nodes::NODES;
+use path_finding::Output;
 
 // The most ends of a search in the list: one more than a search takes.
 const ENDS: usize = desk_search::ENDS + 1;
 
 // A line of nodes, as a search leaves it: places, kinds and directions in lists of their own, which C lends elsewhere.
-#[derive(Drop)]
+#[derive(Debug, PartialEq, Eq, Drop)]
 struct Line {
     xs: [i32; NODES],
     ys: [i32; NODES],
@@ -44,16 +46,11 @@ impl Line {
         {
             return false;
         }
-        for i in 0..n {
-            let same = fields.step_is(fixed::at(&self.xs, i))
-                && fields.step_is(fixed::at(&self.ys, i))
-                && fields.byte_is(self.kinds[i])
-                && fields.number_is(self.directions[i] as u32);
-            if !same {
-                return false;
-            }
-        }
-        fields.is_empty()
+        let same = (0..n).all(|i| fields.step_is(fixed::at(&self.xs, i))
+            && fields.step_is(fixed::at(&self.ys, i))
+            && fields.byte_is(self.kinds[i])
+            && fields.number_is(self.directions[i] as u32));
+        same && fields.is_empty()
     }
 }
 
@@ -73,17 +70,20 @@ pub fn search(desk: &Desk, mut header: Fields, bytes: &[u8]) -> Option<usize> {
         ys[i] = header.signed();
     }
     let mut line = Line::EMPTY;
-    let number = desk_search::search(
-        desk,
+    let request = Request {
         prune,
-        x,
-        y,
-        &xs[..n],
-        &ys[..n],
-        &mut line.xs,
-        &mut line.ys,
-        &mut line.kinds,
-        &mut line.directions,
-    );
-    line.is_answer(number, bytes).then_some(line.count())
+        x: fixed::up(x),
+        y: fixed::up(y),
+        end_x: &xs[..n],
+        end_y: &ys[..n],
+    };
+    let mut output = Output {
+        x: &mut line.xs,
+        y: &mut line.ys,
+        kinds: &mut line.kinds,
+        directions: &mut line.directions,
+    };
+    let found = desk_search::search(desk, request, &mut output);
+    line.is_answer(book::number_of(found), bytes)
+        .then_some(line.count())
 }

@@ -6,7 +6,7 @@ use decimals::{LF, TAB};
 use std::io;
 
 // A section: its header, without the LF, and the bytes that follow.
-#[derive(Clone, Copy)]
+#[derive(Clone, Copy, Debug, PartialEq, Eq)]
 pub struct Section<'a> {
     pub header: &'a [u8],
     pub bytes: &'a [u8],

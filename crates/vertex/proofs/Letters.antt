@@ -6,7 +6,8 @@ use mathlib.Core.List.{List, ◌∷◌, Memᴰ}
 use mathlib.Core.Logic.{⊎_elim}
 use Prim.Native.Nat.{ℕ}
 use Rattle.vertex.specs.Kinds.{LETTERS, letter_of, kind_of}
-use Rattle.vertex.specs.declared.Junction.TheVariants.{None, Corner, LineSegment}
+use Rattle.std.specs.Prelude.{None, Some}
+use Rattle.vertex.specs.declared.JunctionKind.TheVariants.{Corner, LineSegment}
 use Rattle.vertex.specs.declared.VertexKind.{VertexKind}
 use Rattle.vertex.specs.declared.VertexKind.TheVariants.{WireStart, Dummy, Normal, WireEnd}
 
@@ -16,8 +17,8 @@ kind-letter (WireStart false) = refl
 kind-letter Dummy = refl
 kind-letter Normal = refl
 kind-letter (WireEnd None) = refl
-kind-letter (WireEnd Corner) = refl
-kind-letter (WireEnd LineSegment) = refl
+kind-letter (WireEnd (Some Corner)) = refl
+kind-letter (WireEnd (Some LineSegment)) = refl
 
 pub letter-kind : (l : ℕ) → Memᴰ l LETTERS → letter_of (kind_of l) ≡ l
 letter-kind l = or 82 refl (or 66 refl (or 68 refl (or 78 refl (or 69 refl (or 67 refl (or 76 refl (λ m. absurd (Memᴰ.not-nil m))))))))

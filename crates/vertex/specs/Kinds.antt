@@ -1,10 +1,15 @@
 -- 01, 'Nets' and the listing of `wires`: a vertex is a root or branch start, a dummy, a normal corner or a wire's end; a wire's end carries either no
 -- junction or its kind, corner or line segment. The listing's letters: R root start, B branch start, D dummy, N normal, E end, C end on a corner, L end
 -- on a line segment.
-use Rattle.std.specs.Prelude.{Bool, true, false, cond, List, [], ◌∷◌, ℕ, eqb}
-use Rattle.vertex.specs.declared.Junction.TheVariants.{None, Corner, LineSegment}
+use Rattle.std.specs.Prelude.{Bool, true, false, cond, List, [], ◌∷◌, ℕ, Option, None, Some, eqb}
+use Rattle.vertex.specs.declared.JunctionKind.{JunctionKind}
+use Rattle.vertex.specs.declared.JunctionKind.TheVariants.{Corner, LineSegment}
 use Rattle.vertex.specs.declared.VertexKind.{VertexKind}
 use Rattle.vertex.specs.declared.VertexKind.TheVariants.{WireStart, Dummy, Normal, WireEnd}
+
+-- what the end of a wire carries
+abbrev pub Junction : Type 0
+Junction = Option JunctionKind
 
 -- the letters R B D N E C L, as bytes
 abbrev pub LETTERS : List ℕ
@@ -16,8 +21,8 @@ letter_of (WireStart is_root) = cond is_root 82 66
 letter_of Dummy = 68
 letter_of Normal = 78
 letter_of (WireEnd None) = 69
-letter_of (WireEnd Corner) = 67
-letter_of (WireEnd LineSegment) = 76
+letter_of (WireEnd (Some Corner)) = 67
+letter_of (WireEnd (Some LineSegment)) = 76
 
 -- the kind that a letter stands for; any other byte is read as a normal corner
 abbrev pub kind_of : ℕ → VertexKind
@@ -26,8 +31,8 @@ kind_of l =
     (cond (eqb l 66) (WireStart false)
     (cond (eqb l 68) Dummy
     (cond (eqb l 69) (WireEnd None)
-    (cond (eqb l 67) (WireEnd Corner)
-    (cond (eqb l 76) (WireEnd LineSegment) Normal)))))
+    (cond (eqb l 67) (WireEnd (Some Corner))
+    (cond (eqb l 76) (WireEnd (Some LineSegment)) Normal)))))
 
 -- a start of a wire
 abbrev pub start : VertexKind → Bool

@@ -1,9 +1,8 @@
 -- 01, 'Nets': the vertices and junctions of a page as the lent lists hold them, and what they keep. All vertex indices are the page's. A junction is a
 -- row of three words: the vertex that holds it, the end vertex that joins there, and its kind's letter, C for a corner and L for a line segment.
-use Rattle.std.specs.Prelude.{◌≡◌, Bool, true, cond, List, ℕ, ◌+◌, ◌-◌, ◌*◌, ◌/◌, ◌<◌, ◌≤◌, eqb, length, get_or}
-use Rattle.vertex.specs.Kinds.{kind_of, start, end}
-use Rattle.vertex.specs.declared.Junction.{Junction}
-use Rattle.vertex.specs.declared.Junction.TheVariants.{Corner, LineSegment}
+use Rattle.std.specs.Prelude.{◌≡◌, Bool, true, cond, List, ℕ, ◌+◌, ◌-◌, ◌*◌, ◌/◌, ◌<◌, ◌≤◌, eqb, length, get_or, Some}
+use Rattle.vertex.specs.Kinds.{kind_of, start, end, Junction}
+use Rattle.vertex.specs.declared.JunctionKind.TheVariants.{Corner, LineSegment}
 use Rattle.vertex.specs.declared.VertexKind.{VertexKind}
 use Rattle.vertex.specs.declared.VertexKind.TheVariants.{WireEnd}
 
@@ -30,7 +29,7 @@ kind_at K i = kind_of (get_or K i 0)
 
 -- what an end carries that joins by such a row
 abbrev pub carried : Bool → Junction
-carried is_corner = cond is_corner Corner LineSegment
+carried is_corner = cond is_corner (Some Corner) (Some LineSegment)
 
 -- the junctions of n vertices: a wire that joins comes after what it joins, and has a vertex before its end
 pub record Joined (n : ℕ) (J : List ℕ) : Type 0 where

@@ -4,12 +4,10 @@
 ghost use Rattle.std.specs.Prelude.{◌≡◌, ◌<◌, length, set};
 ghost use Rattle.fixed.specs.Up.{ups};
 ghost use Rattle.vertex.specs.Kinds.{kind_of, letter_of, start};
-ghost use Rattle.vertex.specs.Vertices.{vertex_at};
 
-// What a wire's end carries: no junction, or its kind.
+// The kind of a junction.
 #[derive(Clone, Copy, Debug, PartialEq, Eq)]
-pub enum Junction {
-    None,
+pub enum JunctionKind {
     Corner,
     LineSegment,
 }
@@ -19,7 +17,7 @@ pub enum VertexKind {
     WireStart { is_root: bool },
     Dummy,
     Normal,
-    WireEnd { junction: Junction },
+    WireEnd { junction: Option<JunctionKind> },
 }
 
 // A vertex; its place is counted from -2^31.
@@ -48,14 +46,12 @@ impl From<u8> for VertexKind {
             b'R' => VertexKind::WireStart { is_root: true },
             b'B' => VertexKind::WireStart { is_root: false },
             b'D' => VertexKind::Dummy,
-            b'E' => VertexKind::WireEnd {
-                junction: Junction::None,
-            },
+            b'E' => VertexKind::WireEnd { junction: None },
             b'C' => VertexKind::WireEnd {
-                junction: Junction::Corner,
+                junction: Some(JunctionKind::Corner),
             },
             b'L' => VertexKind::WireEnd {
-                junction: Junction::LineSegment,
+                junction: Some(JunctionKind::LineSegment),
             },
             _ => VertexKind::Normal,
         }
@@ -72,28 +68,14 @@ impl From<VertexKind> for u8 {
             VertexKind::WireStart { is_root: false } => b'B',
             VertexKind::Dummy => b'D',
             VertexKind::Normal => b'N',
+            VertexKind::WireEnd { junction: None } => b'E',
             VertexKind::WireEnd {
-                junction: Junction::None,
-            } => b'E',
-            VertexKind::WireEnd {
-                junction: Junction::Corner,
+                junction: Some(JunctionKind::Corner),
             } => b'C',
             VertexKind::WireEnd {
-                junction: Junction::LineSegment,
+                junction: Some(JunctionKind::LineSegment),
             } => b'L',
         }
-    }
-}
-
-// The vertex i of the lent lists.
-pub fn vertex_at(x: &[i32], y: &[i32], kinds: &[u8], i: usize) -> Vertex
-    requires { (i < length x.now) × (i < length y.now) × (i < length kinds.now) }
-    ensures { result ≡ vertex_at (ups x.now) (ups y.now) kinds.now i }
-{
-    Vertex {
-        x: fixed::at(x, i),
-        y: fixed::at(y, i),
-        kind: VertexKind::from(kinds[i]),
     }
 }
 

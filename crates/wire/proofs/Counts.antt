@@ -62,5 +62,8 @@ kept-room kinds ways count k h t =
     let g : kept kinds ways (suc k) ≡ kept kinds ways k + 1 = rw s in
     rw e (omega (arith, kept-up kinds ways (suc k) (count - 1 - suc k), g))
 
-pub kept-most : (kinds ways : List ℕ) (count k : ℕ) → k + 1 ≤ count → kept kinds ways k ≤ kept kinds ways (count - 1)
-kept-most kinds ways count k h = let e : count - 1 ≡ (count - 1 - k) + k = omega arith in rw e (kept-up kinds ways k (count - 1 - k))
+-- the same of the node i
+pub kept-room-at : (kinds ways : List ℕ) (count i : ℕ) → 0 < i → i < count → straight kinds ways i ≡ false → kept kinds ways (i - 1) + 1 ≤ kept kinds ways (count - 1)
+kept-room-at kinds ways count i p h t =
+    let e : i - 1 + 1 ≡ i = omega arith in
+    kept-room kinds ways count (i - 1) (omega arith) (rw e t)

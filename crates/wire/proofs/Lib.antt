@@ -3,3 +3,5 @@ pub mod Counts
 pub mod Paths
 pub mod Pushes
 pub mod Offers
+pub mod Words
+pub mod Keeping

@@ -8,7 +8,7 @@ use native.Mathlib.Nat.{le_refl}
 use native.Mathlib.Omega.{arith}
 use lib.ListN.{get_or, set}
 use lib.Seq.{get_or-set_other}
-use Rattle.vertex.specs.declared.Junction.{Junction}
+use Rattle.vertex.specs.Kinds.{Junction}
 use Rattle.wire.specs.Ends.{end_vertex, put_end}
 use Rattle.wire.specs.Lines.{Line, straight}
 use Rattle.wire.specs.Wires.{Ends, Wires, Held, push_vertex, push_end, push_dummies, push_start, push_start_ends, push_corner, push_node, push_nodes, push_vertices}

@@ -1,4 +1,4 @@
--- A path of a lent graph, as a line.
+-- A path of a graph, as a line.
 --     place-at-node    the place of a node of the path
 --     straight-at      whether it goes straight on there
 use mathlib.Core.Path.{◌≡◌, refl, sym, ◌∙◌}
@@ -7,18 +7,16 @@ use mathlib.Core.List.{List}
 use Prim.Native.Nat.{ℕ, ◌+◌, ◌-◌, ◌<◌}
 use native.Mathlib.Omega.{arith}
 use lib.Dec.{ltb, eqb}
-use lib.ListN.{length, get_or, take}
-use lib.Seq.{get_or-take}
+use lib.ListN.{length, get_or}
 use borrow.Author.Tests.{lt-ltb, ne_eqb}
-use Rattle.astar.specs.Reached.{Below}
 use Rattle.path_finding.specs.Line.{table, place_at, kind_at, direction_at}
 use Rattle.path_finding.proofs.Lines.{table_at}
 use Rattle.wire.specs.Lines.{NORMAL, straight}
 
-pub place-at-node : (n : ℕ) (cs l : List ℕ) (k : ℕ) → k < length l → Below n l → {r : ℕ} → r ≡ get_or cs (get_or l k 0) 0 → r ≡ get_or (table (place_at (take n cs) l) (length l)) k 0
+pub place-at-node : (cs l : List ℕ) (k : ℕ) → k < length l → {r : ℕ} → r ≡ get_or cs (get_or l k 0) 0 → r ≡ get_or (table (place_at cs l) (length l)) k 0
 unfolding place_at
-place-at-node n cs l k h b e =
-    e ∙ sym (table_at (place_at (take n cs) l) (length l) k h ∙ rw (lt-ltb k (length l) h, get_or-take n cs (get_or l k 0) 0 (b k h)))
+place-at-node cs l k h e =
+    e ∙ sym (table_at (place_at cs l) (length l) k h ∙ rw (lt-ltb k (length l) h))
 
 module _ (links l : List ℕ) (i : ℕ) (behind : 0 < i) (inside : i < length l) where
   normal : eqb (kind_at (length l) i) NORMAL ≡ ltb (i + 1) (length l)

@@ -1,9 +1,7 @@
 -- 01, 'Search': a line is its nodes from start to end: place, kind (the letter S, N or E), direction onward. Here as columns, of which the first
 -- `count` entries are the line.
-use Rattle.std.specs.Prelude.{Bool, ◌&&◌, cond, List, ℕ, zero, suc, ◌+◌, ◌-◌, ◌≤◌, eqb, ℤ, length, get_or}
-use Rattle.nodes.specs.Graph.{Graph, NODES}
-use Rattle.nodes.specs.Columns.{GRAPH_WORDS, graph}
-use Rattle.astar.specs.Reached.{Below}
+use Rattle.std.specs.Prelude.{Bool, ◌&&◌, cond, List, ℕ, zero, suc, ◌+◌, ◌-◌, eqb, length, get_or}
+use Rattle.nodes.specs.Graph.{Graph}
 use Rattle.path_finding.specs.Line.{table, place_at, kind_at, direction_at}
 
 pub record Line : Type 0 where
@@ -40,17 +38,3 @@ kept_to L k = kept L.kinds L.ways k
 abbrev pub line_of : Graph → List ℕ → Line
 line_of G l =
     line (table (place_at G.xs l) (length l)) (table (place_at G.ys l) (length l)) (table (kind_at (length l)) (length l)) (table (direction_at G.links l) (length l)) (length l)
-
--- ---- what the functions are lent: a graph of n nodes, and a path of them
-
-abbrev pub path_line : ℕ → List ℤ → List ℕ → Line
-path_line n nodes path = line_of (graph n nodes) path
-
-pub record PathOn (n : ℕ) (nodes : List ℤ) (path : List ℕ) : Type 0 where
-  pub few : n ≤ NODES
-  pub room : GRAPH_WORDS ≤ length nodes
-  pub below : Below n path
-  pub most : length path ≤ NODES
-
-abbrev pub path_in : ℕ → List ℤ → List ℕ → Line
-path_in n nodes path = path_line n nodes path

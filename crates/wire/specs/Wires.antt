@@ -1,9 +1,7 @@
 -- 01, 'Nets' (`push_vertices`, `push_fallback_vertices`): what one wire adds to the page's vertices and to its net's ends.
-use Rattle.std.specs.Prelude.{Bool, true, ◌&&◌, not, cond, List, ℕ, zero, suc, ◌+◌, ◌-◌, ◌<◌, ◌≤◌, eqb, get_or, set, ℤ}
-use Rattle.fixed.specs.Up.{ups}
+use Rattle.std.specs.Prelude.{Bool, true, ◌&&◌, not, cond, List, ℕ, zero, suc, ◌+◌, ◌-◌, ◌<◌, ◌≤◌, eqb, get_or, set}
 use Rattle.fixed.specs.Steps.{dummy}
-use Rattle.vertex.specs.Kinds.{letter_of}
-use Rattle.vertex.specs.declared.Junction.{Junction}
+use Rattle.vertex.specs.Kinds.{letter_of, Junction}
 use Rattle.vertex.specs.declared.VertexKind.{VertexKind}
 use Rattle.vertex.specs.declared.VertexKind.TheVariants.{WireStart, Dummy, Normal, WireEnd}
 use Rattle.wire.specs.Ends.{CORNER, LINE, end_vertex, put_end}
@@ -135,17 +133,3 @@ pub record Room (x y kinds : ℕ) : Type 0 where
   pub of_x : 512 ≤ x
   pub of_y : 512 ≤ y
   pub of_kinds : 512 ≤ kinds
-
--- ---- what a clause sees of the lent lists of a page, and of a net's ends
-
-abbrev pub vertices_in : List ℤ → List ℤ → List ℕ → ℕ → Vertices
-vertices_in x y letters n = vertices (ups x) (ups y) letters n
-
-abbrev pub vertices_out : List ℤ → List ℤ → List ℕ → ℕ → Vertices
-vertices_out x y letters n = vertices (ups x) (ups y) letters n
-
-abbrev pub wires_in : List ℤ → List ℤ → List ℕ → ℕ → List ℕ → ℕ → Wires
-wires_in x y letters n rows m = wires (vertices_in x y letters n) (ends rows m)
-
-abbrev pub wires_out : List ℤ → List ℤ → List ℕ → ℕ → List ℕ → ℕ → Wires
-wires_out x y letters n rows m = wires (vertices_out x y letters n) (ends rows m)

@@ -1,446 +1,290 @@
-// One wire of a net: its vertices on the page, and the ends that it offers to later wires of the net. A line is a path of a graph: `nodes` is the graph's
-// list, `order` how many nodes it has, `path` the nodes from start to end.
+// One wire of a net: its vertices on the page, and the ends that it offers to later wires of the net.
 #![tactic(auto)]
 
-ghost use Rattle.std.specs.Prelude.{◌≡◌, ◌+◌, ◌-◌, ◌*◌, ◌<◌, ◌≤◌, length, get_or, false, cond};
-ghost use Rattle.wire.specs.Ends.{put_end, stands, junction_end, end_distance, nearest_end};
-ghost use Rattle.wire.specs.Lines.{goes_on, kept_to, path_line, PathOn, path_in};
-ghost use Rattle.wire.specs.Wires.{ends as ends_of, wires, push_vertex, push_end, push_dummies, push_start, push_start_ends, Room, line_vertices, line_ends, corner_kind, push_corner, push_node, push_nodes, push_vertices, bent, fallback_vertices, push_bend, push_fallback_wire, push_fallback, vertices_in, vertices_out, wires_in, wires_out};
+mod types;
 
-use vertex::{Junction, Vertex, VertexKind};
+ghost use Rattle.std.specs.Prelude.{◌≡◌, ◌+◌, ◌*◌, ◌-◌, ◌<◌, ◌≤◌, cond, false, Some, length, get_or};
+ghost use Rattle.vertex.specs.Kinds.{letter_of};
+ghost use Rattle.vertex.specs.declared.VertexKind.TheVariants.{WireEnd};
+ghost use Rattle.wire.specs.Ends.{junction_end, nearest_end};
+ghost use Rattle.wire.specs.Lines.{goes_on, kept_to};
+ghost use Rattle.wire.specs.Wires.{wires, push_vertex, push_end, push_dummies, push_start, push_start_ends, push_corner, push_node, push_nodes, push_vertices, line_vertices, line_ends, corner_x, corner_y};
+ghost use Rattle.wire.specs.Lent.{line_in, wires_of, words, bent_in, added_by, bend_in, fallback_wire_in, fallback_in, KeptWires};
+ghost use Rattle.fixed.specs.Steps.{manhattan};
 
-const CORNER: u32 = 67;
+pub use types::{End, Fallback, Line, Place, Wires};
+use vertex::{JunctionKind, Vertex, VertexKind};
 
-const LINE: u32 = 76;
+impl Line<'_> {
+    // The place of the node k.
+    pub fn place_at(self, k: usize) -> Place
+        requires { k < length self.path.now }
+        ensures x_value { result.x ≡ get_or (line_in self.entry).x k 0 }
+        ensures y_value { result.y ≡ get_or (line_in self.entry).y k 0 }
+    {
+        let node = self.path[k] as usize;
+        Place {
+            x: self.graph.x(node),
+            y: self.graph.y(node),
+        }
+    }
 
-// Writes the end i.
-fn put_end(ends: &mut [u32], i: usize, px: u32, py: u32, vertex: u32, kind: u32)
-    requires { (i < 4096) × (4 * i + 3 < length ends.old) }
-    ensures { ends.new ≡ put_end ends.old i px py vertex kind }
-{
-    ends[4 * i] = px;
-    ends[4 * i + 1] = py;
-    ends[4 * i + 2] = vertex;
-    ends[4 * i + 3] = kind;
+    // Whether the node i goes straight on.
+    fn is_straight(self, i: usize) -> bool
+        requires { (0 < i) × (i < length self.path.now) }
+        ensures { result ≡ goes_on (line_in self.entry) i }
+    {
+        let onward = path_finding::direction(self.graph, self.path, i);
+        let before = path_finding::direction(self.graph, self.path, i - 1);
+        (i + 1 < self.path.len()) & (onward == before)
+    }
+
+    // The vertices that a line adds: its start, two dummies, and its kept nodes behind the first.
+    pub fn vertices(self) -> usize
+        requires { 0 < length self.path.now }
+        ensures { result ≡ line_vertices (line_in self.entry) }
+    {
+        let mut total = 3;
+        for i in 1..self.path.len() {
+            if !self.is_straight(i) {
+                total += 1;
+            }
+        }
+        total
+    }
 }
 
-// Whether the end i stands at the place.
-fn is_at(ends: &[u32], px: u32, py: u32, i: usize) -> bool
-    requires { (i < 4096) × (4 * i + 3 < length ends.now) }
-    ensures { result ≡ stands ends.now px py i }
-{
-    (ends[4 * i] == px) & (ends[4 * i + 1] == py)
+impl Wires<'_> {
+    // Adds a vertex.
+    fn push_vertex(&mut self, at: Place, kind: VertexKind)
+        requires { self.old.n < 512 }
+        ensures value { wires_of self.new ≡ wires (push_vertex at.x at.y kind (wires_of self.old).page) (wires_of self.old).net }
+        ensures kept { KeptWires self.old self.new }
+    {
+        let vertex = Vertex {
+            x: at.x,
+            y: at.y,
+            kind,
+        };
+        vertex::put_vertex(self.x, self.y, self.letters, self.n, vertex);
+        self.n += 1;
+    }
+
+    // Adds an end whose junctions the vertex v holds.
+    fn push_end(&mut self, at: Place, v: usize, kind: JunctionKind)
+        requires { (self.old.m < 4096) × (v < 4294967296) }
+        ensures value { wires_of self.new ≡ wires (wires_of self.old).page (push_end at.x at.y v (letter_of (WireEnd (Some kind))) (wires_of self.old).net) }
+        ensures kept { KeptWires self.old self.new }
+    {
+        self.ends[self.m] = End {
+            at,
+            vertex: v as u32,
+            kind,
+        };
+        self.m += 1;
+    }
+
+    // Adds the two dummies of a line.
+    fn push_dummies(&mut self, line: Line)
+        requires { (self.old.n + 1 < 512) × (2 ≤ length line.path.now) }
+        ensures value { wires_of self.new ≡ wires (push_dummies (line_in line.entry) (wires_of self.old).page) (wires_of self.old).net }
+        ensures kept { KeptWires self.old self.new }
+    {
+        let first = line.place_at(0);
+        let next = line.place_at(1);
+        let at = Place {
+            x: fixed::dummy_pos(first.x, next.x),
+            y: fixed::dummy_pos(first.y, next.y),
+        };
+        self.push_vertex(at, VertexKind::Dummy);
+        self.push_vertex(at, VertexKind::Dummy);
+    }
+
+    // Adds the start of a line and its dummies.
+    fn push_start(&mut self, line: Line, is_root: bool)
+        requires { (self.old.n + 2 < 512) × (2 ≤ length line.path.now) }
+        ensures value { wires_of self.new ≡ wires (push_start (line_in line.entry) is_root (wires_of self.old).page) (wires_of self.old).net }
+        ensures kept { KeptWires self.old self.new }
+    {
+        self.push_vertex(line.place_at(0), VertexKind::WireStart { is_root });
+        self.push_dummies(line);
+    }
+
+    // Adds the two ends at the start of a line, whose vertex is v.
+    fn push_start_ends(&mut self, line: Line, v: usize)
+        requires { (self.old.m + 1 < 4096) × (v < 512) × (0 < length line.path.now) }
+        ensures value { wires_of self.new ≡ wires (wires_of self.old).page (push_start_ends (line_in line.entry) v (wires_of self.old).net) }
+        ensures kept { KeptWires self.old self.new }
+    {
+        let at = line.place_at(0);
+        self.push_end(at, v, JunctionKind::Corner);
+        self.push_end(at, v + 2, JunctionKind::Corner);
+    }
+
+    // Adds a corner, and an end on it.
+    fn push_corner(&mut self, at: Place, kind: VertexKind)
+        requires { (self.old.n < 512) × (self.old.m < 4096) }
+        ensures value { wires_of self.new ≡ push_corner at.x at.y kind (wires_of self.old) }
+        ensures kept { KeptWires self.old self.new }
+    {
+        self.push_end(at, self.n, JunctionKind::Corner);
+        self.push_vertex(at, kind);
+    }
+
+    // Adds the node i of a line.
+    fn push_node(&mut self, line: Line, junction: Option<JunctionKind>, i: usize)
+        requires i_nonzero { (0 < i) × (i < length line.path.now) }
+        requires room { (0 < self.old.n) × (goes_on (line_in line) i ≡ false → self.old.n < 512) × (self.old.m < 4096) }
+        ensures value { wires_of self.new ≡ push_node (line_in line.entry) junction i (wires_of self.old) }
+        ensures kept { KeptWires self.old self.new }
+    {
+        let at = line.place_at(i);
+        if line.is_straight(i) {
+            self.push_end(at, self.n - 1, JunctionKind::LineSegment);
+            return;
+        }
+        if i + 1 == line.path.len() {
+            self.push_corner(at, VertexKind::WireEnd { junction });
+        } else {
+            self.push_corner(at, VertexKind::Normal);
+        }
+    }
+
+    // Adds the nodes of a line behind its first.
+    fn push_nodes(&mut self, line: Line, junction: Option<JunctionKind>)
+        requires path_bound { 2 ≤ length line.path.now }
+        requires room { (0 < self.old.n) × (self.old.n + kept_to (line_in line) (length line.path.now - 1) ≤ 512) × (self.old.m + (length line.path.now - 1) ≤ 4096) }
+        ensures value { wires_of self.new ≡ push_nodes (line_in line.entry) junction (length line.entry.path.now - 1) (wires_of self.old) }
+        ensures kept { KeptWires self.old self.new }
+    {
+        for i in 1..line.path.len() {
+            self.push_node(line, junction, i);
+        }
+    }
+
+    // Adds start, dummies and corners of a line. It adds an end more than it has nodes.
+    pub fn push_vertices(&mut self, line: Line, is_root: bool, junction: Option<JunctionKind>)
+        requires path_bound { 2 ≤ length line.path.now }
+        requires vertex_room { self.old.n + line_vertices (line_in line) ≤ 512 }
+        requires end_room { self.old.m + line_ends (line_in line) ≤ 4096 }
+        ensures value { wires_of self.new ≡ push_vertices (line_in line.entry) is_root junction (wires_of self.old) }
+        ensures kept { KeptWires self.old self.new }
+    {
+        let v = self.n;
+        self.push_start(line, is_root);
+        self.push_start_ends(line, v);
+        self.push_nodes(line, junction);
+    }
+
+    // Adds the corner of a fallback if it has one.
+    fn push_bend(&mut self, way: Fallback)
+        requires { self.old.n + added_by way ≤ 513 }
+        ensures value { wires_of self.new ≡ wires (bend_in way (wires_of self.old).page) (wires_of self.old).net }
+        ensures n_value { self.new.n + 2 ≡ self.old.n + added_by way }
+        ensures kept { KeptWires self.old self.new }
+    {
+        if way.is_bent() {
+            self.push_vertex(way.corner(), VertexKind::Normal);
+        }
+    }
+
+    // Adds the vertices of a fallback.
+    fn push_fallback_wire(&mut self, way: Fallback, junction: Option<JunctionKind>)
+        requires { self.old.n + added_by way ≤ 512 }
+        ensures value { wires_of self.new ≡ wires (fallback_wire_in way junction (wires_of self.old).page) (wires_of self.old).net }
+        ensures n_value { self.new.n ≡ self.old.n + added_by way }
+        ensures kept { KeptWires self.old self.new }
+    {
+        self.push_vertex(way.start, VertexKind::WireStart { is_root: true });
+        self.push_bend(way);
+        self.push_vertex(way.end, VertexKind::WireEnd { junction });
+    }
+
+    // Adds a fallback. It adds 2 ends.
+    pub fn push_fallback_vertices(&mut self, way: Fallback, junction: Option<JunctionKind>)
+        requires vertex_room { self.old.n + added_by way ≤ 512 }
+        requires end_room { self.old.m + 2 ≤ 4096 }
+        ensures value { wires_of self.new ≡ fallback_in way junction (wires_of self.old) }
+        ensures kept { KeptWires self.old self.new }
+    {
+        let v = self.n;
+        self.push_fallback_wire(way, junction);
+        self.push_end(way.start, v, JunctionKind::Corner);
+        self.push_end(way.end, self.n - 1, JunctionKind::Corner);
+    }
 }
 
-// The end that a junction at the place takes: the first there, the last of all if no other is there.
-pub fn junction_end(ends: &[u32], count: usize, px: u32, py: u32) -> usize
-    requires { (0 < count) × (count ≤ 4096) × (4 * count ≤ length ends.now) }
-    ensures { (result ≡ junction_end ends.now count px py) × (result < count) }
+// Of the first m ends, the one that a junction at the place takes: the first there, the last of all if no other is there.
+// It reads a list alone, as `nearest_end` does: a net's `Wires` need not be lent for it.
+pub fn junction_end(ends: &[End], m: usize, at: Place) -> usize
+    requires { (0 < m) × (m ≤ length ends.now) }
+    ensures value { result ≡ junction_end (words ends.now) m at.x at.y }
+    ensures below { result < m }
 {
-    let last = count - 1;
-    let mut i = 0;
-    while i < last {
-        if is_at(ends, px, py, i) {
+    let last = m - 1;
+    for i in 0..last {
+        if ends[i].at == at {
             return i;
         }
-        i += 1;
     }
-    i
+    last
 }
 
-// The Manhattan distance from the end i to the place.
-fn end_distance(ends: &[u32], px: u32, py: u32, i: usize) -> u64
-    requires { (i < 4096) × (4 * i + 3 < length ends.now) }
-    ensures { result ≡ end_distance ends.now px py i }
-{
-    fixed::manhattan(ends[4 * i], ends[4 * i + 1], px, py)
-}
-
-// The first end at the least Manhattan distance from the place.
-pub fn nearest_end(ends: &[u32], count: usize, px: u32, py: u32) -> usize
-    requires { (0 < count) × (count ≤ 4096) × (4 * count ≤ length ends.now) }
-    ensures { (result ≡ nearest_end ends.now px py count) × (result < count) }
+// Of the first m ends, the first at the least Manhattan distance from the place.
+pub fn nearest_end(ends: &[End], m: usize, at: Place) -> usize
+    requires { (0 < m) × (m ≤ length ends.now) }
+    ensures value { result ≡ nearest_end (words ends.now) at.x at.y m }
+    ensures below { result < m }
 {
     let mut best = 0;
-    let mut i = 0;
-    while i < count {
-        if end_distance(ends, px, py, i) < end_distance(ends, px, py, best) {
+    for i in 0..m {
+        if ends[i].distance(at) < ends[best].distance(at) {
             best = i;
         }
-        i += 1;
     }
     best
 }
 
-// The place of the k-th node of a line, which is a path of a graph's nodes.
-pub fn x_at(nodes: &[i32], order: usize, path: &[u32], k: usize) -> u32
-    requires path_on { PathOn order nodes.now path.now }
-    requires k_in_bounds { k < length path.now }
-    ensures { result ≡ get_or (path_in order nodes.now path.now).x k 0 }
-{
-    nodes::x_of(nodes, path[k] as usize)
+impl End {
+    // The Manhattan distance to the place.
+    fn distance(self, at: Place) -> u64
+        ensures { result ≡ manhattan self.at.x self.at.y at.x at.y }
+    {
+        fixed::manhattan(self.at.x, self.at.y, at.x, at.y)
+    }
 }
 
-pub fn y_at(nodes: &[i32], order: usize, path: &[u32], k: usize) -> u32
-    requires path_on { PathOn order nodes.now path.now }
-    requires k_in_bounds { k < length path.now }
-    ensures { result ≡ get_or (path_in order nodes.now path.now).y k 0 }
-{
-    nodes::y_of(nodes, path[k] as usize)
-}
-
-// Whether the node i of a line goes straight on.
-fn is_straight(nodes: &[i32], order: usize, path: &[u32], i: usize) -> bool
-    requires path_on { PathOn order nodes.now path.now }
-    requires i_nonzero { (0 < i) × (i < length path.now) }
-    ensures { result ≡ goes_on (path_in order nodes.now path.now) i }
-{
-    let onward = path_finding::direction(nodes, order, path, i);
-    let before = path_finding::direction(nodes, order, path, i - 1);
-    (i + 1 < path.len()) & (onward == before)
-}
-
-// The vertices that a line adds: its start, two dummies, and its kept nodes behind the first.
-pub fn line_vertices(nodes: &[i32], order: usize, path: &[u32]) -> usize
-    requires path_on { PathOn order nodes.now path.now }
-    requires path_nonzero { 0 < length path.now }
-    ensures { result ≡ line_vertices (path_in order nodes.now path.now) }
-{
-    let mut total = 3;
-    let mut i = 1;
-    while i < path.len() {
-        if !is_straight(nodes, order, path, i) {
-            total += 1;
+impl Fallback {
+    // Its corner.
+    fn corner(self) -> Place
+        ensures x_value { result.x ≡ corner_x self.along self.start.x self.end.x }
+        ensures y_value { result.y ≡ corner_y self.along self.start.y self.end.y }
+    {
+        if self.along {
+            Place {
+                x: self.end.x,
+                y: self.start.y,
+            }
+        } else {
+            Place {
+                x: self.start.x,
+                y: self.end.y,
+            }
         }
-        i += 1;
     }
-    total
-}
 
-// Adds a vertex behind n of them; their number then.
-fn push_vertex(
-    x: &mut [i32],
-    y: &mut [i32],
-    letters: &mut [u8],
-    n: usize,
-    px: u32,
-    py: u32,
-    kind: VertexKind,
-) -> usize
-    requires { (n < length x.old) × (n < length y.old) × (n < length letters.old) }
-    ensures { (result ≡ n + 1) × (vertices_out x.new y.new letters.new result ≡ push_vertex px py kind (vertices_in x.old y.old letters.old n)) }
-{
-    let vertex = Vertex { x: px, y: py, kind };
-    vertex::put_vertex(x, y, letters, n, vertex);
-    n + 1
-}
-
-// Adds the two dummies of a line behind n vertices; their number then.
-fn push_dummies(
-    nodes: &[i32],
-    order: usize,
-    path: &[u32],
-    x: &mut [i32],
-    y: &mut [i32],
-    letters: &mut [u8],
-    n: usize,
-) -> usize
-    requires path_on { PathOn order nodes.now path.now }
-    requires in_bounds { 2 ≤ length path.now }
-    requires n_in_bounds { (n + 1 < length x.old) × (n + 1 < length y.old) × (n + 1 < length letters.old) }
-    ensures { (result ≡ n + 2) × (vertices_out x.new y.new letters.new result ≡ push_dummies (path_in order nodes.now path.now) (vertices_in x.old y.old letters.old n)) }
-{
-    let px = x_at(nodes, order, path, 0);
-    let py = y_at(nodes, order, path, 0);
-    let dx = fixed::dummy_pos(px, x_at(nodes, order, path, 1));
-    let dy = fixed::dummy_pos(py, y_at(nodes, order, path, 1));
-    let first = push_vertex(x, y, letters, n, dx, dy, VertexKind::Dummy);
-    push_vertex(x, y, letters, first, dx, dy, VertexKind::Dummy)
-}
-
-// Adds the start of a line and its dummies behind n vertices; their number then.
-fn push_start(
-    nodes: &[i32],
-    order: usize,
-    path: &[u32],
-    root: bool,
-    x: &mut [i32],
-    y: &mut [i32],
-    letters: &mut [u8],
-    n: usize,
-) -> usize
-    requires path_on { PathOn order nodes.now path.now }
-    requires in_bounds { 2 ≤ length path.now }
-    requires n_in_bounds { (n + 2 < length x.old) × (n + 2 < length y.old) × (n + 2 < length letters.old) }
-    ensures { (result ≡ n + 3) × (vertices_out x.new y.new letters.new result ≡ push_start (path_in order nodes.now path.now) root (vertices_in x.old y.old letters.old n)) }
-{
-    let px = x_at(nodes, order, path, 0);
-    let py = y_at(nodes, order, path, 0);
-    let kind = VertexKind::WireStart { is_root: root };
-    let first = push_vertex(x, y, letters, n, px, py, kind);
-    push_dummies(nodes, order, path, x, y, letters, first)
-}
-
-// Adds an end behind m of them; their number then.
-fn push_end(ends: &mut [u32], m: usize, px: u32, py: u32, v: usize, kind: u32) -> usize
-    requires { (m < 4096) × (4 * m + 3 < length ends.old) × (v < 4294967296) }
-    ensures { (result ≡ m + 1) × (ends_of ends.new result ≡ push_end px py v kind (ends_of ends.old m)) }
-{
-    put_end(ends, m, px, py, v as u32, kind);
-    m + 1
-}
-
-// Adds the two ends at the start of a line, whose vertex is v; the number of ends then.
-fn push_start_ends(
-    nodes: &[i32],
-    order: usize,
-    path: &[u32],
-    ends: &mut [u32],
-    m: usize,
-    v: usize,
-) -> usize
-    requires path_on { PathOn order nodes.now path.now }
-    requires path_nonzero { 0 < length path.now }
-    requires m_bound { (m < 4095) × (4 * m + 7 < length ends.old) × (v < 512) }
-    ensures { (result ≡ m + 2) × (ends_of ends.new result ≡ push_start_ends (path_in order nodes.now path.now) v (ends_of ends.old m)) }
-{
-    let px = x_at(nodes, order, path, 0);
-    let py = y_at(nodes, order, path, 0);
-    let first = push_end(ends, m, px, py, v, CORNER);
-    push_end(ends, first, px, py, v + 2, CORNER)
-}
-
-// What a kept node behind the first becomes.
-fn corner_kind(last: bool, junction: Junction) -> VertexKind
-    ensures { result ≡ corner_kind last junction }
-{
-    if last {
-        return VertexKind::WireEnd { junction };
+    // Whether its corner is a vertex of its own.
+    fn is_bent(self) -> bool
+        ensures { result ≡ bent_in self }
+    {
+        let corner = self.corner();
+        (corner != self.start) & (corner != self.end)
     }
-    VertexKind::Normal
-}
 
-// Adds a corner behind n vertices and m ends; the number of vertices then.
-fn push_corner(
-    px: u32,
-    py: u32,
-    kind: VertexKind,
-    x: &mut [i32],
-    y: &mut [i32],
-    letters: &mut [u8],
-    n: usize,
-    ends: &mut [u32],
-    m: usize,
-) -> usize
-    requires n_bound { (n < 512) × (n < length x.old) × (n < length y.old) × (n < length letters.old) }
-    requires m_bound { (m < 4096) × (4 * m + 3 < length ends.old) }
-    ensures { wires_out x.new y.new letters.new result ends.new (m + 1) ≡ push_corner px py kind (wires_in x.old y.old letters.old n ends.old m) }
-{
-    push_end(ends, m, px, py, n, CORNER);
-    push_vertex(x, y, letters, n, px, py, kind)
-}
-
-// Adds the node i of a line behind n vertices and m ends; the number of vertices then.
-fn push_node(
-    nodes: &[i32],
-    order: usize,
-    path: &[u32],
-    junction: Junction,
-    i: usize,
-    x: &mut [i32],
-    y: &mut [i32],
-    letters: &mut [u8],
-    n: usize,
-    ends: &mut [u32],
-    m: usize,
-) -> usize
-    requires path_on { PathOn order nodes.now path.now }
-    requires i_nonzero { (0 < i) × (i < length path.now) }
-    requires room { Room (length x.old) (length y.old) (length letters.old) }
-    requires n_nonzero { (0 < n) × (n ≤ 512) × (goes_on (path_line order nodes.now path.now) i ≡ false → n < 512) }
-    requires m_bound { (m < 4096) × (4 * m + 3 < length ends.old) }
-    ensures { wires_out x.new y.new letters.new result ends.new (m + 1) ≡ push_node (path_in order nodes.now path.now) junction i (wires_in x.old y.old letters.old n ends.old m) }
-{
-    let px = x_at(nodes, order, path, i);
-    let py = y_at(nodes, order, path, i);
-    if is_straight(nodes, order, path, i) {
-        push_end(ends, m, px, py, n - 1, LINE);
-        return n;
+    // How many vertices it adds.
+    pub fn vertices(self) -> usize
+        ensures { result ≡ added_by self }
+    {
+        if self.is_bent() { 3 } else { 2 }
     }
-    let kind = corner_kind(i + 1 == path.len(), junction);
-    push_corner(px, py, kind, x, y, letters, n, ends, m)
-}
-
-// Adds the nodes of a line behind its first, behind n vertices and m ends; the number of vertices then.
-fn push_nodes(
-    nodes: &[i32],
-    order: usize,
-    path: &[u32],
-    junction: Junction,
-    x: &mut [i32],
-    y: &mut [i32],
-    letters: &mut [u8],
-    n: usize,
-    ends: &mut [u32],
-    m: usize,
-) -> usize
-    requires path_on { PathOn order nodes.now path.now }
-    requires in_bounds { 2 ≤ length path.now }
-    requires room { Room (length x.old) (length y.old) (length letters.old) }
-    requires n_nonzero { (0 < n) × (n + kept_to (path_line order nodes.now path.now) (length path.now - 1) ≤ 512) }
-    requires path_bound { (m + (length path.now - 1) ≤ 4096) × (16384 ≤ length ends.old) }
-    ensures { wires (vertices_out x.new y.new letters.new result) (ends_of ends.new (m + (length path.now - 1))) ≡ push_nodes (path_in order nodes.now path.now) junction (length path.now - 1) (wires_in x.old y.old letters.old n ends.old m) }
-{
-    let mut total = n;
-    let mut k = 0;
-    while k + 1 < path.len() {
-        let i = k + 1;
-        let e = m + k;
-        total = push_node(
-            nodes, order, path, junction, i, x, y, letters, total, ends, e,
-        );
-        k += 1;
-    }
-    total
-}
-
-// Adds start, dummies and corners of a line behind n vertices and m ends; the number of vertices then. It adds an end more than it has nodes.
-pub fn push_vertices(
-    nodes: &[i32],
-    order: usize,
-    path: &[u32],
-    root: bool,
-    junction: Junction,
-    x: &mut [i32],
-    y: &mut [i32],
-    letters: &mut [u8],
-    n: usize,
-    ends: &mut [u32],
-    m: usize,
-) -> usize
-    requires path_on { PathOn order nodes.now path.now }
-    requires in_bounds { 2 ≤ length path.now }
-    requires room { Room (length x.old) (length y.old) (length letters.old) }
-    requires path_bound { n + line_vertices (path_line order nodes.now path.now) ≤ 512 }
-    requires path_bound_2 { (m + line_ends (path_line order nodes.now path.now) ≤ 4096) × (16384 ≤ length ends.old) }
-    ensures { wires_out x.new y.new letters.new result ends.new (m + line_ends (path_in order nodes.now path.now)) ≡ push_vertices (path_in order nodes.now path.now) root junction (wires_in x.old y.old letters.old n ends.old m) }
-{
-    let first = push_start(nodes, order, path, root, x, y, letters, n);
-    let from = push_start_ends(nodes, order, path, ends, m, n);
-    push_nodes(
-        nodes, order, path, junction, x, y, letters, first, ends, from,
-    )
-}
-
-fn pick(first: bool, a: u32, b: u32) -> u32
-    ensures { result ≡ cond first a b }
-{
-    if first { a } else { b }
-}
-
-// Whether a fallback from s to e with its corner at c has that corner as a vertex of its own.
-fn is_bent(cx: u32, cy: u32, sx: u32, sy: u32, ex: u32, ey: u32) -> bool
-    ensures { result ≡ bent cx cy sx sy ex ey }
-{
-    !((cx == sx) & (cy == sy)) & !((cx == ex) & (cy == ey))
-}
-
-// The vertices of a fallback.
-pub fn fallback_vertices(sx: u32, sy: u32, ex: u32, ey: u32, along: bool) -> usize
-    ensures { result ≡ fallback_vertices sx sy ex ey along }
-{
-    let cx = pick(along, ex, sx);
-    let cy = pick(along, sy, ey);
-    if is_bent(cx, cy, sx, sy, ex, ey) {
-        return 3;
-    }
-    2
-}
-
-// Adds the corner of a fallback behind n vertices if it has one; their number then.
-fn push_bend(
-    sx: u32,
-    sy: u32,
-    ex: u32,
-    ey: u32,
-    along: bool,
-    x: &mut [i32],
-    y: &mut [i32],
-    letters: &mut [u8],
-    n: usize,
-) -> usize
-    requires room { Room (length x.old) (length y.old) (length letters.old) }
-    requires along_bound { n + fallback_vertices sx sy ex ey along ≤ 513 }
-    ensures { (result + 2 ≡ n + fallback_vertices sx sy ex ey along) × (vertices_out x.new y.new letters.new result ≡ push_bend sx sy ex ey along (vertices_in x.old y.old letters.old n)) }
-{
-    let cx = pick(along, ex, sx);
-    let cy = pick(along, sy, ey);
-    if is_bent(cx, cy, sx, sy, ex, ey) {
-        return push_vertex(x, y, letters, n, cx, cy, VertexKind::Normal);
-    }
-    n
-}
-
-// Adds the vertices of a fallback from s to e behind n vertices; their number then.
-fn push_fallback_wire(
-    sx: u32,
-    sy: u32,
-    ex: u32,
-    ey: u32,
-    along: bool,
-    junction: Junction,
-    x: &mut [i32],
-    y: &mut [i32],
-    letters: &mut [u8],
-    n: usize,
-) -> usize
-    requires room { Room (length x.old) (length y.old) (length letters.old) }
-    requires along_bound { n + fallback_vertices sx sy ex ey along ≤ 512 }
-    ensures { (n + 2 ≤ result) × (result ≤ 512) × (vertices_out x.new y.new letters.new result ≡ push_fallback_wire sx sy ex ey along junction (vertices_in x.old y.old letters.old n)) }
-{
-    let first = push_vertex(
-        x,
-        y,
-        letters,
-        n,
-        sx,
-        sy,
-        VertexKind::WireStart { is_root: true },
-    );
-    let last = push_bend(sx, sy, ex, ey, along, x, y, letters, first);
-    push_vertex(
-        x,
-        y,
-        letters,
-        last,
-        ex,
-        ey,
-        VertexKind::WireEnd { junction },
-    )
-}
-
-// Adds a fallback from s to e behind n vertices and m ends; the number of vertices then. It adds 2 ends.
-pub fn push_fallback_vertices(
-    sx: u32,
-    sy: u32,
-    ex: u32,
-    ey: u32,
-    along: bool,
-    junction: Junction,
-    x: &mut [i32],
-    y: &mut [i32],
-    letters: &mut [u8],
-    n: usize,
-    ends: &mut [u32],
-    m: usize,
-) -> usize
-    requires room { Room (length x.old) (length y.old) (length letters.old) }
-    requires along_bound { n + fallback_vertices sx sy ex ey along ≤ 512 }
-    requires m_bound { (m + 2 ≤ 4096) × (16384 ≤ length ends.old) }
-    ensures { wires_out x.new y.new letters.new result ends.new (m + 2) ≡ push_fallback sx sy ex ey along junction (wires_in x.old y.old letters.old n ends.old m) }
-{
-    let total = push_fallback_wire(sx, sy, ex, ey, along, junction, x, y, letters, n);
-    let second = push_end(ends, m, sx, sy, n, CORNER);
-    push_end(ends, second, ex, ey, total - 1, CORNER);
-    total
 }

@@ -5,9 +5,6 @@ use Rattle.anchors.proofs.Columns.{keys-begin, keys_on, keys-asks}
 use Rattle.anchors.proofs.with_keys.Goals as goal
 use Rattle.anchors.proofs.with_keys.Goals.{then-ends, else-ends}
 
-pub as_chunks-requires : goal.as_chunks-requires
-as_chunks-requires g c = omega arith
-
 pub loop-i-init : goal.loop-i-init
 loop-i-init g c = record { laid = keys-begin _ _ _ _ _ _; inside = c.requires.n_bound }
 

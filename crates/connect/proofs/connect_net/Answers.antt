@@ -1,60 +1,39 @@
--- Each ending is what the definition says.
-use mathlib.Core.Path.{◌∙◌}
 use native.Mathlib.Omega.{arith}
-use Rattle.nodes.specs.Columns.{graph}
-use Rattle.path_finding.proofs.Between.{few-lent}
-use Rattle.connect.proofs.Turning.{prior-two, pair-in, turns-all, connect-early, connect-refused, connect-done}
+use Rattle.std.proofs.Common.{refl, ◌≡◌, ◌∙◌, ap, length}
+use Rattle.book.specs.Refusals.{code, number_of}
+use Rattle.net.specs.Lent.{made_of}
+use Rattle.path_finding.specs.Lent.{graph_in}
+use Rattle.routing.specs.Roots.{root_pair}
+use Rattle.book.proofs.Refusals.{refused}
+use Rattle.wire.specs.Lent.{wires_of, words, xs_of, ys_of}
+use Rattle.connect.proofs.Turning.{pair-in, prior-two, turns-all, connect-early, connect-refused, connect-done, length-words, length-xs}
 use Rattle.connect.proofs.connect_net.Goals as goal
 
-pub prior-number-requires : goal.prior-number-requires
-prior-number-requires c =
-    (few-lent _ _ c.requires.searching.ready, c.requires.searching.words, c.requires.px_len_bound.1)
+pub returns-in-Err-clause-value : goal.returns-in-Err-clause-value
+returns-in-Err-clause-value c =
+    let s = c.args in
+    let k : number_of c.refuse.result ≡ code c.in-Err.early = ap number_of c.refuse.ensures.told in
+    rw k (connect-early (graph_in s.finder.now) (xs_of s.points.now) (ys_of s.points.now) (wires_of s.wires.now).page s.joins.now.rows.now s.joins.now.j (code c.in-Err.early) (rw length-xs c.in-Err.ensures) _ (refused c.in-Err.early) c.refuse.ensures.value)
 
-pub refuse-requires : goal.refuse-requires
-refuse-requires c =
-    (omega (arith, c.requires.in_bounds.4, c.requires.in_bounds.5, c.requires.in_bounds.0), omega (arith, c.requires.in_bounds.4, c.requires.in_bounds.5, c.requires.in_bounds.1), omega (arith, c.requires.in_bounds.4, c.requires.in_bounds.5, c.requires.in_bounds.2), omega (arith, c.requires.in_bounds.4, c.requires.in_bounds.5), omega (arith, c.requires.in_bounds.4, c.requires.in_bounds.5, c.requires.in_bounds.3))
+pub route_net-requires-clause-in_bounds : goal.route_net-requires-clause-in_bounds
+route_net-requires-clause-in_bounds c =
+    let s = c.args in
+    let G = graph_in s.finder.now in
+    let two = prior-two G.xs G.ys G.count (xs_of s.points.now) (ys_of s.points.now) 0 (rw length-xs c.in_default.ensures) refl in
+    let p = pair-in (xs_of s.points.now) (ys_of s.points.now) (length s.points.now) _ (rw length-xs at two) refl in
+    (rw c.pick_root_path-a.ensures.from p.0, rw c.pick_root_path-a.ensures.to p.1, c.requires.few)
 
-pub returns-then-number-ne0 : goal.returns-then-number-ne0
-returns-then-number-ne0 c =
-    connect-early _ _ _ _ _ _ _ c.prior-number.ensures _ c.if-number-ne0.true c.refuse.ensures
+pub returns-in-Err-route_net-clause-value : goal.returns-in-Err-route_net-clause-value
+returns-in-Err-route_net-clause-value c =
+    let s = c.args in
+    let G = graph_in s.finder.now in
+    let k : number_of c.refuse-in-Err-route_net.result ≡ code c.in-Err-route_net.late = ap number_of c.refuse-in-Err-route_net.ensures.told in
+    let t = turns-all G (xs_of s.points.now) (ys_of s.points.now) (root_pair (xs_of s.points.now) (ys_of s.points.now) (length (xs_of s.points.now))) (wires_of s.wires.now).page (words s.wires.now.ends.now) s.joins.now.rows.now s.joins.now.j (made_of (code c.in-Err-route_net.late) c.route_net.new.wires c.route_net.new.joins) (length-words s.wires.now.ends.now ∙ omega arith) refl (rw length-xs (rw (c.pick_root_path-a.ensures.from, c.pick_root_path-a.ensures.to) at c.in-Err-route_net.ensures.value)) in
+    rw k (connect-refused G (xs_of s.points.now) (ys_of s.points.now) (wires_of s.wires.now).page s.joins.now.rows.now s.joins.now.j 0 (rw length-xs c.in_default.ensures) refl _ t _ (refused c.in-Err-route_net.late) c.refuse-in-Err-route_net.ensures.value)
 
-pub pick_root_path-p-requires : goal.pick_root_path-p-requires
-pick_root_path-p-requires c =
-    let s = c.args in (prior-two (graph s.n s.nodes.now).xs (graph s.n s.nodes.now).ys s.n s.px.now s.py.now _ c.prior-number.ensures c.if-number-ne0.false, c.requires.px_len_bound.0, c.requires.px_len_bound.1)
-
-pub nonzero_div-a : goal.nonzero_div-a
-nonzero_div-a c = let s = c.args in omega (arith, prior-two (graph s.n s.nodes.now).xs (graph s.n s.nodes.now).ys s.n s.px.now s.py.now _ c.prior-number.ensures c.if-number-ne0.false)
-
-pub nonzero_rem-b : goal.nonzero_rem-b
-nonzero_rem-b c = let s = c.args in omega (arith, prior-two (graph s.n s.nodes.now).xs (graph s.n s.nodes.now).ys s.n s.px.now s.py.now _ c.prior-number.ensures c.if-number-ne0.false)
-
-pub turns-t-requires : goal.turns-t-requires
-turns-t-requires c = let s = c.args in let i = pair-in _ _ _ _ (prior-two (graph s.n s.nodes.now).xs (graph s.n s.nodes.now).ys s.n s.px.now s.py.now _ c.prior-number.ensures c.if-number-ne0.false) c.pick_root_path-p.ensures in record { searching = c.requires.searching; page = record { x_room = c.requires.in_bounds.0; y_room = c.requires.in_bounds.1; letters_room = c.requires.in_bounds.2; rows_long = c.requires.rows_len }; a_in_bounds = (i.0, i.1, c.requires.px_len_bound.0, c.requires.px_len_bound.1, c.requires.in_bounds.4, c.requires.in_bounds.5, c.requires.in_bounds.3) }
-
-pub refuse-requires-then-t-ne0 : goal.refuse-requires-then-t-ne0
-refuse-requires-then-t-ne0 c =
-    (omega (arith, c.requires.in_bounds.4, c.requires.in_bounds.5, c.requires.in_bounds.0, c.turns-t.auto.x), omega (arith, c.requires.in_bounds.4, c.requires.in_bounds.5, c.requires.in_bounds.1, c.turns-t.auto.y), omega (arith, c.requires.in_bounds.4, c.requires.in_bounds.5, c.requires.in_bounds.2, c.turns-t.auto.letters), omega (arith, c.requires.in_bounds.4, c.requires.in_bounds.5), omega (arith, c.requires.in_bounds.4, c.requires.in_bounds.5, c.requires.in_bounds.3, c.turns-t.auto.joins))
-
-pub shape_of-x-then-t-ne0 : goal.shape_of-x-then-t-ne0
-shape_of-x-then-t-ne0 c =
-    c.refuse-then-t-ne0.auto.x ∙ c.turns-t.auto.x
-
-pub shape_of-y-then-t-ne0 : goal.shape_of-y-then-t-ne0
-shape_of-y-then-t-ne0 c =
-    c.refuse-then-t-ne0.auto.y ∙ c.turns-t.auto.y
-
-pub shape_of-letters-then-t-ne0 : goal.shape_of-letters-then-t-ne0
-shape_of-letters-then-t-ne0 c =
-    c.refuse-then-t-ne0.auto.letters ∙ c.turns-t.auto.letters
-
-pub shape_of-joins-then-t-ne0 : goal.shape_of-joins-then-t-ne0
-shape_of-joins-then-t-ne0 c =
-    c.refuse-then-t-ne0.auto.joins ∙ c.turns-t.auto.joins
-
-pub returns-then-t-ne0 : goal.returns-then-t-ne0
-returns-then-t-ne0 c =
-    connect-refused _ _ _ _ _ _ _ c.prior-number.ensures c.if-number-ne0.false _ (turns-all _ _ _ _ _ _ _ _ _ c.requires.rows_len c.pick_root_path-p.ensures c.turns-t.ensures) _ c.if-t-ne0.true c.refuse-then-t-ne0.ensures
-
-pub returns : goal.returns
-returns c =
-    connect-done _ _ _ _ _ _ _ c.prior-number.ensures c.if-number-ne0.false _ (turns-all _ _ _ _ _ _ _ _ _ c.requires.rows_len c.pick_root_path-p.ensures c.turns-t.ensures) c.if-t-ne0.false
+pub returns-clause-value : goal.returns-clause-value
+returns-clause-value c =
+    let s = c.args in
+    let G = graph_in s.finder.now in
+    let t = turns-all G (xs_of s.points.now) (ys_of s.points.now) (root_pair (xs_of s.points.now) (ys_of s.points.now) (length (xs_of s.points.now))) (wires_of s.wires.now).page (words s.wires.now.ends.now) s.joins.now.rows.now s.joins.now.j (made_of 0 c.route_net.new.wires c.route_net.new.joins) (length-words s.wires.now.ends.now ∙ omega arith) refl (rw length-xs (rw (c.pick_root_path-a.ensures.from, c.pick_root_path-a.ensures.to) at c.in_default-route_net.ensures.value)) in
+    connect-done G (xs_of s.points.now) (ys_of s.points.now) (wires_of s.wires.now).page s.joins.now.rows.now s.joins.now.j 0 (rw length-xs c.in_default.ensures) refl _ t refl

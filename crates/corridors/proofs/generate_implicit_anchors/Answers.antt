@@ -1,36 +1,9 @@
--- The axis lists are the sorted distinct edges; the rows along x first, then those along y.
-use Rattle.std.proofs.Common.{◌≡◌, ℕ, ◌-◌, length, take, sym, ap, ◌∙◌, arith}
-use Rattle.std.proofs.lemmas.List.{length-take-le, length-take, length-append, length-drop}
-use Rattle.corridors.specs.declared.row.Row.{Row}
-use Rattle.corridors.specs.Grid.{stacked}
-use Rattle.corridors.specs.Rules.{xs_of, ys_of}
-use Rattle.corridors.proofs.Crossing.{answered, answered-full, axis-inside}
+-- What lies behind the part that is handed on.
+use Rattle.std.proofs.Common.{◌∙◌, arith}
+use Rattle.std.proofs.lemmas.List.{length-take-le}
+use Rattle.std.proofs.lemmas.Slice.{drop-append-drop}
 use Rattle.corridors.proofs.generate_implicit_anchors.Goals as goal
 
-pub invariant_of-level_grid-clause-inside : goal.invariant_of-level_grid-clause-inside
-invariant_of-level_grid-clause-inside c =
-    axis-inside _ _ _ _ c.edges-nx.ensures.axis_value c.requires.edges_bound.min_x_inside c.requires.edges_bound.max_x_inside
-
-pub invariant_of-upright_grid-clause-inside : goal.invariant_of-upright_grid-clause-inside
-invariant_of-upright_grid-clause-inside c =
-    axis-inside _ _ _ _ c.edges-ny.ensures.axis_value c.requires.edges_bound.min_y_inside c.requires.edges_bound.max_y_inside
-
-pub corridors-requires : goal.corridors-requires
-corridors-requires c =
-    let kx : length (take c.edges-nx.result c.edges-nx.new.axis) ≡ c.edges-nx.result = length-take-le _ c.edges-nx.new.axis (omega (arith, c.edges-nx.auto.axis)) in
-    let ky : length (take c.edges-ny.result c.edges-ny.new.axis) ≡ c.edges-ny.result = length-take-le _ c.edges-ny.new.axis (omega (arith, c.edges-ny.auto.axis)) in
-    (length-take-le c.saturating_sub.result _ (omega arith) ∙ c.saturating_sub.ensures ∙ ap (λ (n : ℕ). n - 1) (sym ky), omega arith, c.requires.room)
-
-pub returns-in_err-level : goal.returns-in_err-level
-returns-in_err-level c =
-    rw c.from_residual.ensures (answered-full c.args.boxes.now (xs_of (stacked c.args.boxes.now)) (ys_of (stacked c.args.boxes.now)) c.args.anchors.now (rw (c.edges-nx.ensures.axis_value, c.edges-ny.ensures.axis_value) at c.in_err-level.ensures))
-
-pub corridors-requires-2 : goal.corridors-requires-2
-corridors-requires-2 c =
-    let kx : length (take c.edges-nx.result c.edges-nx.new.axis) ≡ c.edges-nx.result = length-take-le _ c.edges-nx.new.axis (omega (arith, c.edges-nx.auto.axis)) in
-    let ky : length (take c.edges-ny.result c.edges-ny.new.axis) ≡ c.edges-ny.result = length-take-le _ c.edges-ny.new.axis (omega (arith, c.edges-ny.auto.axis)) in
-    (length-take-le c.saturating_sub-2.result _ (omega (arith, c.corridors.auto.rows, length-append {A = Row}, length-drop {A = Row}, length-take {A = Row})) ∙ c.saturating_sub-2.ensures ∙ ap (λ (n : ℕ). n - 1) (sym kx), c.in_ok-level.ensures.most, omega (arith, c.corridors.auto.anchors, c.requires.room))
-
-pub returns : goal.returns
-returns c =
-    answered c.args.boxes.now (xs_of (stacked c.args.boxes.now)) (ys_of (stacked c.args.boxes.now)) c.in_ok-level.level c.args.anchors.now c.corridors.new.anchors c.corridors.new.rows (rw (c.edges-nx.ensures.axis_value, c.edges-ny.ensures.axis_value) at c.in_ok-level.ensures) (omega (arith, c.corridors.auto.anchors, c.requires.room)) c.corridors-2.result c.corridors-2.new.anchors c.corridors-2.new.rows (omega (arith, c.corridors-2.auto.anchors, c.corridors.auto.anchors, c.requires.room)) (rw (c.edges-nx.ensures.axis_value, c.edges-ny.ensures.axis_value) at c.corridors-2.ensures)
+pub returns-clause-behind : goal.returns-clause-behind
+returns-clause-behind c =
+    drop-append-drop 2048 c.args.anchors.now c.implicit_anchors.new.anchors 2048 (omega arith) (c.implicit_anchors.auto.anchors ∙ length-take-le 2048 c.args.anchors.now c.requires.room)

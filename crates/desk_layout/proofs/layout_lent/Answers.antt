@@ -1,23 +1,32 @@
--- `desk_layout::layout_lent` meets its contract. The tests in their order.
-use mathlib.Core.Path.{sym, ◌∙◌}
-use Rattle.desk.proofs.Whole.{sound-at}
-use Rattle.desk_layout.proofs.Call.{lent-2, lent-2c, lent-on}
+-- The tests in their order.
+use Rattle.std.proofs.Common.{◌≡◌, sym, ◌∙◌}
 use Rattle.book.proofs.Refusals.{erred, not_erred}
+use Rattle.desk.specs.Desk.{book_of, seen_of}
+use Rattle.desk.proofs.Whole.{sound-at}
+use Rattle.page_layout.specs.Drawing.{drawing_in}
+use Rattle.desk_layout.specs.Layout.{left, tested}
+use Rattle.desk_layout.proofs.Call.{lent-2, lent-2c, lent-on}
+use Rattle.desk_layout.proofs.Outputs.{no-drawing}
 use Rattle.desk_layout.proofs.layout_lent.Goals as goal
+use Rattle.desk_layout.proofs.layout_lent.Goals.{then-is_err-via-then-is_err, then-is_err-via-else-is_err+then-not-is_ok}
 
 pub returns-then-is_err : goal.returns-then-is_err
-returns-then-is_err c = let both = lent-2 c.args.desk.now c.args.prune c.args.separate c.args.nets.now c.args.x.now c.args.y.now c.args.kinds.now
-    c.args.joins.now _ c.requires.in_bounds c.validate.ensures (erred _ (sym c.is_err.ensures.value ∙ c.if-is_err.true)) _ c.no_drawing.ensures in record { value = both.0; joins_after = both.1 }
+returns-then-is_err c =
+    let ws = c.args.desk.now in
+    let q = c.args.choice in
+    let d = drawing_in c.args.sheet.now in
+    let e = sym c.is_err.ensures.value in
+    let z = no-drawing _ _ _ _ _ _ _ _ _ _ c.clear.ensures.cleared in
+    let p : (2 ≡ tested (seen_of ws) q) × (drawing_in c.clear.new.self ≡ left 2 (book_of ws).lists q d) =
+    elim c.then-is_err.branch [
+      | then-is_err-via-then-is_err w ↦ lent-2 ws q d _ c.requires c.validate.ensures (erred _ (e ∙ w.if-is_err.true)) _ z
+      | then-is_err-via-else-is_err+then-not-is_ok w ↦ lent-2c ws q d _ c.requires c.validate.ensures (not_erred _ (e ∙ w.if-is_err.false)) (sym w.is_ok.ensures ∙ w.if-not-is_ok.true) _ z
+    ] in
+    record { value = p.0; sheet_after = p.1; kept = c.clear.ensures.kept }
 
-pub returns-then-not-ok_choice : goal.returns-then-not-ok_choice
-returns-then-not-ok_choice c = let both = lent-2c c.args.desk.now c.args.prune c.args.separate c.args.nets.now c.args.x.now c.args.y.now c.args.kinds.now
-    c.args.joins.now _ c.requires.in_bounds c.validate.ensures (not_erred _ (sym c.is_err.ensures.value ∙ c.if-is_err.false)) _ c.ok_choice.ensures c.if-not-ok_choice.true-raw _
-    c.no_drawing-then-not-ok_choice.ensures in record { value = both.0; joins_after = both.1 }
+pub layout_valid-requires-clause-desk_value : goal.layout_valid-requires-clause-desk_value
+layout_valid-requires-clause-desk_value c = (sound-at _ _ c.validate.ensures (not_erred _ (sym c.is_err.ensures.value ∙ c.if-is_err.false))).book
 
-pub layout_valid-requires : goal.layout_valid-requires
-layout_valid-requires c = record { in_bounds = c.requires.in_bounds; desk_value = (sound-at _ _ c.validate.ensures (not_erred _ (sym c.is_err.ensures.value ∙ c.if-is_err.false))).book; in_bounds_2 = c.requires.in_bounds_2 }
-
-pub returns : goal.returns
-returns c = let both = lent-on c.args.desk.now c.args.prune c.args.separate c.args.nets.now c.args.x.now c.args.y.now c.args.kinds.now
-    c.args.joins.now _ c.requires.in_bounds c.validate.ensures (not_erred _ (sym c.is_err.ensures.value ∙ c.if-is_err.false)) _ c.ok_choice.ensures c.if-not-ok_choice.false-raw _ _
-    (c.layout_valid.ensures.value, c.layout_valid.ensures.joins_after) in record { value = both.0; joins_after = both.1 }
+pub returns-clause-value : goal.returns-clause-value
+returns-clause-value c =
+    lent-on c.args.desk.now c.args.choice (drawing_in c.args.sheet.now) _ c.requires c.validate.ensures (not_erred _ (sym c.is_err.ensures.value ∙ c.if-is_err.false)) (sym c.is_ok.ensures ∙ c.if-not-is_ok.false) _ c.layout_valid.ensures.value

@@ -1,10 +1,18 @@
--- `desk_search::search` meets its contract. The same with the start as it is lent.
-use mathlib.Core.Path.{ap, ◌∙◌}
-use mir.ValLaws.{to_z-of_z}
-use mir.Syntax.{w32}
-use Rattle.fixed.specs.Up.{up}
-use Rattle.desk_search.proofs.Call.{as-asked}
+use Rattle.std.proofs.Common.{sym, ◌∙◌}
+use Rattle.desk_search.proofs.Call.{lent-desk, says-1, says_on}
 use Rattle.desk_search.proofs.search.Goals as goal
 
-pub returns : goal.returns
-returns c = let both = as-asked c.args.desk.now _ _ _ _ _ _ c.args.x c.args.y _ _ (c.up.ensures ∙ ap up (to_z-of_z w32 c.args.x c.ranges.x)) (c.up-2.ensures ∙ ap up (to_z-of_z w32 c.args.y c.ranges.y)) (c.search_steps.ensures.value, c.search_steps.ensures.dirs_after) in record { value = both.0; dirs_after = both.1 }
+pub returns-then-not-is_lent-clause-value : goal.returns-then-not-is_lent-clause-value
+returns-then-not-is_lent-clause-value c = (says-1 _ _ _ (sym c.is_lent.ensures ∙ c.if-not-is_lent.true)).0
+
+pub returns-then-not-is_lent-clause-output_after : goal.returns-then-not-is_lent-clause-output_after
+returns-then-not-is_lent-clause-output_after c = (says-1 _ _ _ (sym c.is_lent.ensures ∙ c.if-not-is_lent.true)).1
+
+pub search_lent-requires : goal.search_lent-requires
+search_lent-requires c = lent-desk _ _ (sym c.is_lent.ensures ∙ c.if-not-is_lent.false)
+
+pub returns-clause-value : goal.returns-clause-value
+returns-clause-value c = (says_on _ _ _ (sym c.is_lent.ensures ∙ c.if-not-is_lent.false) _ _ c.search_lent.ensures.value c.search_lent.ensures.output_after).0
+
+pub returns-clause-output_after : goal.returns-clause-output_after
+returns-clause-output_after c = (says_on _ _ _ (sym c.is_lent.ensures ∙ c.if-not-is_lent.false) _ _ c.search_lent.ensures.value c.search_lent.ensures.output_after).1

@@ -1,14 +1,36 @@
--- `desk_search::search_valid` meets its contract. The rows are the page of the lists now; its graph is searched.
-use native.Mathlib.Omega.{arith}
-use Rattle.desk_search.proofs.Call.{query-ends, valid-asks, valid-searchable, valid-on}
-use borrow.Author.Rules.{rules}
+use Rattle.std.proofs.Common.{arith, sym, ap, ◌∙◌}
+use Rattle.fixed.proofs.Lists.{length-ups}
+use Rattle.book.specs.Refusals.{number_of}
+use Rattle.book.proofs.Refusals.{passed}
+use Rattle.desk_search.proofs.Call.{query-ends, valid-sound, valid-number, valid-left}
 use Rattle.desk_search.proofs.search_valid.Goals as goal
 
-pub graph_of-graph-requires : goal.graph_of-graph-requires
-graph_of-graph-requires c = record { asked = valid-asks c.args.desk.now c.args.prune c.args.x c.args.y c.args.ex.now c.args.ey.now c.args.lx.now c.args.ly.now c.args.kinds.now c.args.dirs.now c.requires.desk_value _ c.records.ensures; in_bounds = search rules }
+pub invariant_of-ends : goal.invariant_of-ends
+invariant_of-ends c =
+    record { even = omega (arith, (query-ends _ c.requires.query_value).0, length-ups c.args.request.end_x.now, length-ups c.args.request.end_y.now) }
 
-pub search_on-requires : goal.search_on-requires
-search_on-requires c = record { searchable = valid-searchable c.args.desk.now c.args.prune c.args.x c.args.y c.args.ex.now c.args.ey.now c.args.lx.now c.args.ly.now c.args.kinds.now c.args.dirs.now c.requires.desk_value _ c.records.ensures _ _ c.graph_of-graph.ensures (omega (arith, c.graph_of-graph.auto.nodes)); ended = query-ends c.args.prune c.args.x c.args.y c.args.ex.now c.args.ey.now c.requires.ey_value }
+pub search_page-requires-clause-sound : goal.search_page-requires-clause-sound
+search_page-requires-clause-sound c = valid-sound c.args.desk.now c.requires.desk_value _ c.records-records.ensures
 
-pub returns : goal.returns
-returns c = let both = valid-on c.args.desk.now c.args.prune c.args.x c.args.y c.args.ex.now c.args.ey.now c.args.lx.now c.args.ly.now c.args.kinds.now c.args.dirs.now c.requires.desk_value _ c.records.ensures _ _ c.graph_of-graph.ensures _ _ _ _ _ _ (omega (arith, c.search_on.auto.lx)) (omega (arith, c.search_on.auto.ly)) (omega (arith, c.search_on.auto.kinds)) (omega (arith, c.search_on.auto.dirs)) c.search_on.ensures in record { value = both.0; dirs_after = both.1 }
+pub search_page-requires-clause-few : goal.search_page-requires-clause-few
+search_page-requires-clause-few c = omega (arith, (query-ends _ c.requires.query_value).1, length-ups c.args.request.end_x.now)
+
+pub returns-in_err-search_page-clause-value : goal.returns-in_err-search_page-clause-value
+returns-in_err-search_page-clause-value c =
+    valid-number c.args.desk.now c.requires.desk_value _ c.records-records.ensures c.args.request _ c.args.output.now _ c.search_page.ensures.kept c.search_page.ensures.searched _
+    (passed _ _ c.from_residual.ensures.1 ∙ sym (ap number_of c.in_err-search_page.was))
+
+pub returns-in_err-search_page-clause-output_after : goal.returns-in_err-search_page-clause-output_after
+returns-in_err-search_page-clause-output_after c =
+    valid-left c.args.desk.now c.requires.desk_value _ c.records-records.ensures c.args.request _ c.args.output.now _ c.search_page.ensures.kept c.search_page.ensures.searched _
+    (passed _ _ c.from_residual.ensures.1 ∙ sym (ap number_of c.in_err-search_page.was))
+
+pub returns-clause-value : goal.returns-clause-value
+returns-clause-value c =
+    valid-number c.args.desk.now c.requires.desk_value _ c.records-records.ensures c.args.request _ c.args.output.now _ c.search_page.ensures.kept c.search_page.ensures.searched _
+    (sym (ap number_of c.in_ok-search_page.was))
+
+pub returns-clause-output_after : goal.returns-clause-output_after
+returns-clause-output_after c =
+    valid-left c.args.desk.now c.requires.desk_value _ c.records-records.ensures c.args.request _ c.args.output.now _ c.search_page.ensures.kept c.search_page.ensures.searched _
+    (sym (ap number_of c.in_ok-search_page.was))

@@ -27,8 +27,8 @@ loop-anchor-preserved c =
       few_y = omega (arith, c.insert-ny.ensures.upper_bound);
     }
 
-pub build-requires-clause-paged : goal.build-requires-clause-paged
-build-requires-clause-paged c =
+pub build-requires : goal.build-requires
+build-requires c =
     let i = c.loop-anchor.invariant in
     record { x_rising = rw i.x_axis (axis-rising _ _); y_rising = rw i.y_axis (axis-rising _ _) }
 

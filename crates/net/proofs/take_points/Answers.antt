@@ -1,29 +1,31 @@
--- The endpoints so far are those of the first k rows.
 use native.Mathlib.Omega.{arith}
-use mathlib.Core.Path.{refl, ◌∙◌}
-use Rattle.net.proofs.Leaves.{column-none, column-end}
+use Rattle.std.proofs.Common.{refl, ◌∙◌, ◌≡◌, ◌/◌, length}
+use Rattle.std.specs.List.{take-map}
+use Rattle.wire.specs.declared.types.Place.{Place}
+use Rattle.net.proofs.Leaves.{column-none, column-end, point-on, point-off}
 use Rattle.net.proofs.take_points.Goals as goal
+use Rattle.net.proofs.take_points.Goals.{then-ends-k, else-ends-k}
 
 pub loop-k-init : goal.loop-k-init
-loop-k-init c = (omega arith, omega arith, refl, refl, column-none _ _ _, column-none _ _ _)
-
-pub take_point-m-requires : goal.take_point-m-requires
-take_point-m-requires c = record { k_bound = (omega arith, omega arith, omega arith, omega arith, omega arith); px_value = (c.loop-k.invariant.4, c.loop-k.invariant.5) }
-
-pub overflow_add-k : goal.overflow_add-k
-overflow_add-k c = omega arith
-
-pub loop-k-smaller : goal.loop-k-smaller
-loop-k-smaller c = omega arith
+loop-k-init c = record { few = omega arith; long = refl; x_value = column-none _ _ _; y_value = column-none _ _ _ }
 
 pub loop-k-preserved : goal.loop-k-preserved
-loop-k-preserved c = (omega arith, c.take_point-m.ensures.0, c.take_point-m.auto.px ∙ c.loop-k.invariant.2, c.take_point-m.auto.py ∙ c.loop-k.invariant.3, c.take_point-m.ensures.1, c.take_point-m.ensures.2)
+loop-k-preserved c =
+    let l = c.loop-k in
+    let b = c.if-ends-k.branch in
+    record {
+      few = elim b [ then-ends-k w ↦ omega (arith, w.m-is, l.invariant.few) | else-ends-k w ↦ omega (arith, w.m-is, l.invariant.few) ];
+      long = c.if-ends-k.auto.points ∙ l.invariant.long;
+      x_value = elim b [ then-ends-k w ↦ point-on _ _ _ 1 (λ (p : Place). p.x) l.points _ l.m _ l.invariant.x_value _ w.if-ends-k.true w.points-is w.m-is (omega (arith, l.invariant.few, l.invariant.long)) refl | else-ends-k w ↦ point-off _ _ _ 1 (λ (p : Place). p.x) l.points _ l.m _ l.invariant.x_value w.if-ends-k.false w.points-is w.m-is ];
+      y_value = elim b [ then-ends-k w ↦ point-on _ _ _ 2 (λ (p : Place). p.y) l.points _ l.m _ l.invariant.y_value _ w.if-ends-k.true w.points-is w.m-is (omega (arith, l.invariant.few, l.invariant.long)) refl | else-ends-k w ↦ point-off _ _ _ 2 (λ (p : Place). p.y) l.points _ l.m _ l.invariant.y_value w.if-ends-k.false w.points-is w.m-is ];
+    }
 
-pub shape_of-px : goal.shape_of-px
-shape_of-px c = c.loop-k.invariant.2
+pub returns-clause-x_value : goal.returns-clause-x_value
+returns-clause-x_value c =
+    let e : c.loop-k.k ≡ length c.args.ends.now / 4 = omega arith in
+    rw (← take-map (λ (p : Place). p.x) c.loop-k.m c.loop-k.points) (column-end _ _ _ _ _ _ e c.loop-k.invariant.x_value)
 
-pub shape_of-py : goal.shape_of-py
-shape_of-py c = c.loop-k.invariant.3
-
-pub returns : goal.returns
-returns c = (omega (arith, c.loop-k.invariant.1, c.loop-k.invariant.0), column-end _ _ _ _ _ _ (omega (arith, c.loop-k.invariant.0)) c.loop-k.invariant.4, column-end _ _ _ _ _ _ (omega (arith, c.loop-k.invariant.0)) c.loop-k.invariant.5)
+pub returns-clause-y_value : goal.returns-clause-y_value
+returns-clause-y_value c =
+    let e : c.loop-k.k ≡ length c.args.ends.now / 4 = omega arith in
+    rw (← take-map (λ (p : Place). p.y) c.loop-k.m c.loop-k.points) (column-end _ _ _ _ _ _ e c.loop-k.invariant.y_value)

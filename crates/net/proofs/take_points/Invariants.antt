@@ -1,12 +1,12 @@
--- The endpoints so far are those of the first k rows.
-use mathlib.Core.Path.{◌≡◌}
-use Prim.Native.Nat.{◌-◌, ◌≤◌}
-use lib.ListN.{length, take}
+use Rattle.std.proofs.Common.{◌≡◌, ◌≤◌, take, length}
 use Rattle.net.specs.Points.{column}
+use Rattle.wire.specs.Lent.{xs_of, ys_of}
 use Rattle.net.proofs.take_points.Given as goal
 
 abbrev pub invariant-loop-k : goal.invariant-loop-k
-invariant-loop-k l = (l.k ≤ l.count) × (l.m ≤ l.k) × (length l.px ≡ length l.initial.px) × (length l.py ≡ length l.initial.py) × (take l.m l.px ≡ column 1 l.ends l.id l.k) × (take l.m l.py ≡ column 2 l.ends l.id l.k)
-
-abbrev pub decreases-loop-k : goal.decreases-loop-k
-decreases-loop-k l = l.count - l.k
+invariant-loop-k l = record {
+  few : l.m ≤ l.k;
+  long : length l.points ≡ length l.initial.points;
+  x_value : take l.m (xs_of l.points) ≡ column 1 l.ends l.id l.k;
+  y_value : take l.m (ys_of l.points) ≡ column 2 l.ends l.id l.k;
+}

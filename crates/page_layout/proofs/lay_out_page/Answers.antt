@@ -1,11 +1,22 @@
--- What is told of the graph is true of the page's, and the nets on it are the nets of the page.
-use Rattle.std.proofs.Common.{arith}
-use Rattle.page_layout.proofs.Laying.{grounded, number_is, laid-is}
+-- Zeros on a crowded page, on any other the nets on its graph.
+use Rattle.anchors.specs.Lent.{records_in}
+use Rattle.page_layout.proofs.Laying.{number-full, number_fits, grounded, laid-full, laid-fits}
 use Rattle.page_layout.proofs.lay_out_page.Goals as goal
 
-pub lay_on-requires-clause-grounded : goal.lay_on-requires-clause-grounded
-lay_on-requires-clause-grounded c =
-    grounded _ c.args.pruned _ _ c.graph_of-g.ensures c.requires.asked c.requires.placed (omega (arith, c.graph_of-g.auto.nodes))
+pub lay_out-requires-clause-ground : goal.lay_out-requires-clause-ground
+lay_out-requires-clause-ground c =
+    let told = c.in-Some.ensures in
+    grounded (records_in c.args.records) told.0 c.args.pruned _ told.1 c.requires.asked c.requires.placed
 
-pub returns : goal.returns
-returns c = let p = c.args.pruned in record { value = number_is _ p _ _ c.graph_of-g.ensures _ c.lay_on.ensures.value; joins_value = laid-is _ p _ _ c.graph_of-g.ensures c.args.apart _ _ c.lay_on.ensures.joins_value }
+pub returns-in-None : goal.returns-in-None
+returns-in-None c =
+    let r = records_in c.args.records in
+    let full = c.in-None.ensures in
+    record { value = number-full r full; sheet_after = laid-full r c.args.pruned c.args.apart _ _ _ _ _ _ _ _ _ _ full c.clear.ensures.cleared; kept = c.clear.ensures.kept }
+
+pub returns-in-Some : goal.returns-in-Some
+returns-in-Some c =
+    let r = records_in c.args.records in
+    let told = c.in-Some.ensures in
+    let laid = c.lay_out.ensures in
+    record { value = number_fits r told.0; sheet_after = laid-fits r c.args.pruned c.args.apart _ _ _ _ _ _ _ _ _ _ told.0 _ told.1 _ _ laid.value; kept = laid.kept }

@@ -1,16 +1,27 @@
--- `page_listing::print_desk` meets its contract. A page that was read is laid out, or it is crowded.
+-- A page that was read is laid out, or it is crowded.
+use mathlib.Core.Path.{sym, ◌∙◌}
 use borrow.Author.Rules.{rules}
+use Rattle.book.proofs.Refusals.{erred, not_erred}
 use Rattle.page_listing.proofs.Laid.{lent-sized, crowded-room, crowded-printed, laid-printed, drawing-fits}
 use Rattle.page_listing.proofs.print_desk.Goals as goal
 
 pub write_crowded-requires : goal.write_crowded-requires
-write_crowded-requires c = crowded-room _ c.requires.prune_bound.2
+write_crowded-requires c = crowded-room _ c.requires.room
 
-pub returns-then-n-ne0 : goal.returns-then-n-ne0
-returns-then-n-ne0 c = record { put = crowded-printed c.args.desk.now c.requires.in_bounds c.requires.desk_value c.args.prune c.args.separate c.requires.prune_bound.0 c.requires.prune_bound.1 _ _ (lent-sized _ _ _ _ _ (search rules) (search rules) (search rules) (search rules) (search rules)) _ c.layout-n.ensures.value c.layout-n.ensures.joins_after _ _ _ c.if-n-ne0.true c.write_crowded.ensures.put; first = c.write_crowded.ensures.first }
+pub returns-then-is_err-clause-put : goal.returns-then-is_err-clause-put
+returns-then-is_err-clause-put c =
+    let q = c.new-choice.ensures in
+    let e = c.layout-laid.ensures in
+    crowded-printed c.args.desk.now c.requires.in_bounds c.requires.desk_value _ q.ok _ _ q.pruned q.apart _ _ (lent-sized _ _ _ _ _ (search rules) (search rules) (search rules) (search rules) (search rules)) _ e.value e.lists_after _ _ _ (erred _ (sym c.is_err.ensures.value ∙ c.if-is_err.true)) c.write_crowded.ensures.put
 
-pub print_laid-requires : goal.print_laid-requires
-print_laid-requires c = record { in_bounds = c.requires.in_bounds; desk_value = c.requires.desk_value; fits = drawing-fits c.args.desk.now c.requires.in_bounds c.requires.desk_value c.args.prune c.args.separate c.requires.prune_bound.0 c.requires.prune_bound.1 _ _ (lent-sized _ _ _ _ _ (search rules) (search rules) (search rules) (search rules) (search rules)) _ c.layout-n.ensures.value c.layout-n.ensures.joins_after c.if-n-ne0.false; in_bounds_2 = c.requires.prune_bound.2 }
+pub print_laid-requires-clause-fits : goal.print_laid-requires-clause-fits
+print_laid-requires-clause-fits c =
+    let q = c.new-choice.ensures in
+    let e = c.layout-laid.ensures in
+    drawing-fits c.args.desk.now c.requires.in_bounds c.requires.desk_value _ q.ok _ _ q.pruned q.apart _ _ (lent-sized _ _ _ _ _ (search rules) (search rules) (search rules) (search rules) (search rules)) _ e.value e.lists_after (not_erred _ (sym c.is_err.ensures.value ∙ c.if-is_err.false))
 
-pub returns : goal.returns
-returns c = record { put = laid-printed c.args.desk.now c.requires.in_bounds c.requires.desk_value c.args.prune c.args.separate c.requires.prune_bound.0 c.requires.prune_bound.1 _ _ (lent-sized _ _ _ _ _ (search rules) (search rules) (search rules) (search rules) (search rules)) _ c.layout-n.ensures.value c.layout-n.ensures.joins_after _ _ _ c.if-n-ne0.false c.print_laid.ensures.put; first = c.print_laid.ensures.first }
+pub returns-clause-put : goal.returns-clause-put
+returns-clause-put c =
+    let q = c.new-choice.ensures in
+    let e = c.layout-laid.ensures in
+    laid-printed c.args.desk.now c.requires.in_bounds c.requires.desk_value _ q.ok _ _ q.pruned q.apart _ _ (lent-sized _ _ _ _ _ (search rules) (search rules) (search rules) (search rules) (search rules)) _ e.value e.lists_after _ _ _ (not_erred _ (sym c.is_err.ensures.value ∙ c.if-is_err.false)) c.print_laid.ensures.put

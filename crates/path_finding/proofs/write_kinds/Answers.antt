@@ -1,9 +1,13 @@
-use mathlib.Core.Path.{◌∙◌}
-use native.Mathlib.Omega.{arith}
-use Rattle.path_finding.proofs.Laws.{kind-off}
+use Rattle.std.proofs.Common.{◌∙◌, arith}
+use Rattle.path_finding.proofs.Laws.{table-begin, table_more, kind-off}
 use Rattle.path_finding.proofs.Lines.{table-closed}
 use Rattle.path_finding.proofs.write_kinds.Goals as goal
 
+pub loop-k-init : goal.loop-k-init
+loop-k-init c = table-begin _
+
+pub loop-k-preserved : goal.loop-k-preserved
+loop-k-preserved c = table_more _ _ _ _ c.loop-k.invariant (omega arith) c.kind.ensures
+
 pub returns : goal.returns
-returns c =
-    c.close.ensures ∙ table-closed _ _ _ _ _ c.put_kinds.ensures c.taken-j.ensures.0 c.put_kinds.auto.to (λ k a b. kind-off _ k (omega (arith, c.taken-j.ensures.1 k a b)) (c.taken-j.ensures.1 k a b))
+returns c = c.close.ensures ∙ table-closed _ _ _ _ _ _ c.loop-k.invariant (omega arith) (omega arith) c.loop-k.auto.to (λ k a b. kind-off _ k (omega arith) (omega arith))

@@ -1,10 +1,13 @@
-use Rattle.nodes.specs.Columns.{whole}
-use native.Mathlib.Omega.{arith}
-use Rattle.prune.proofs.Lent.{drop-last, drop-inner}
+use Rattle.std.proofs.Common.{◌∙◌, ◌-◌, refl, arith}
+use Rattle.nodes.specs.Columns.{graph_of}
+use Rattle.prune.proofs.Lent.{moved_is, shrunk, drop-last, drop-inner, relinked-count}
+use Rattle.prune.proofs.drop_node.Goals.{then-i-last, else-i-last}
 use Rattle.prune.proofs.drop_node.Goals as goal
 
-pub returns-then-i-last : goal.returns-then-i-last
-returns-then-i-last c = drop-last _ (whole c.args.nodes.now) _ c.if-i-last.true
-
 pub returns : goal.returns
-returns c = drop-inner _ _ _ _ _ (omega arith) c.if-i-last.false c.move_node.ensures c.backs.ensures
+returns c =
+    let s = c.args.graph.now in
+    elim c.if-i-last.branch [
+      | then-i-last w ↦ rw w.graph-is (shrunk w.backs.new.graph s.count (relinked-count _ _ _ w.backs.ensures) ∙ drop-inner (graph_of s) _ _ c.args.i w.if-i-last.true (moved_is s c.args.i (s.count - 1) (omega arith)) w.backs.ensures)
+      | else-i-last w ↦ rw w.graph-is (shrunk s s.count refl ∙ drop-last s c.args.i w.if-i-last.false)
+    ]

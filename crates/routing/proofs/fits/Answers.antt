@@ -1,6 +1,5 @@
--- Both tests are the definition.
+use Rattle.std.proofs.Common.{refl}
 use Rattle.routing.specs.Branches.{fits}
-use mathlib.Core.Path.{refl}
 use Rattle.routing.proofs.fits.Goals as goal
 
 pub returns : goal.returns

@@ -1,16 +1,13 @@
--- The end at the line's last place, or the nearest.
+use native.Mathlib.Omega.{arith}
+use Rattle.wire.specs.Lent.{wires_of}
+use Rattle.routing.proofs.Alike.{end-there}
 use Rattle.routing.proofs.Tries.{joined-nearest, joined_at}
-use borrow.Author.Rules.{rules}
 use Rattle.routing.proofs.joined_end.Goals as goal
 
-pub returns-then-path-eq0 : goal.returns-then-path-eq0
-returns-then-path-eq0 c = (joined-nearest _ _ _ _ _ c.if-path-eq0.true c.nearest_end.ensures.0, c.nearest_end.ensures.1)
-
-pub x_at-px-requires : goal.x_at-px-requires
-x_at-px-requires c = record { path_on = c.requires.path_on; k_in_bounds = search rules }
-
-pub y_at-py-requires : goal.y_at-py-requires
-y_at-py-requires c = record { path_on = c.requires.path_on; k_in_bounds = search rules }
+pub returns-then-line-eq0 : goal.returns-then-line-eq0
+returns-then-line-eq0 c =
+    end-there _ _ _ _ _ _ _ (omega (arith, c.nearest_end-nearest.ensures.below)) (joined-nearest _ _ _ (wires_of c.args.wires.now).net _ c.if-line-eq0.true c.nearest_end-nearest.ensures.value)
 
 pub returns : goal.returns
-returns c = (joined_at _ _ _ _ _ _ _ c.if-path-eq0.false c.x_at-px.ensures c.y_at-py.ensures c.junction_end.ensures.0, c.junction_end.ensures.1)
+returns c =
+    end-there _ _ _ _ _ _ _ (omega (arith, c.junction_end-first.ensures.below)) (joined_at _ _ _ (wires_of c.args.wires.now).net _ _ _ c.if-line-eq0.false c.place_at-end.ensures.x_value c.place_at-end.ensures.y_value c.junction_end-first.ensures.value)

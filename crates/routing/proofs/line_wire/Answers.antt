@@ -1,31 +1,29 @@
--- The three ways out of the definition.
-use Prim.Native.Nat.{◌-◌}
-use lib.ListN.{length}
-use Rattle.wire.specs.Lines.{path_line}
-use Rattle.routing.proofs.Tries.{fits-vertices, fits-ends, line-one, line-over, line-done}
-use Rattle.wire.proofs.Counts.{kept-le}
 use native.Mathlib.Omega.{arith}
+use Prim.Native.Nat.{◌-◌, ◌+◌}
+use lib.ListN.{length}
+use Rattle.wire.specs.Lent.{line_in, wires_of}
+use Rattle.wire.proofs.Counts.{kept-le}
+use Rattle.routing.proofs.Tries.{fits-vertices, fits-ends, line-one, line-over, line-done}
 use Rattle.routing.proofs.line_wire.Goals as goal
 
-pub returns-then-path-eq1 : goal.returns-then-path-eq1
-returns-then-path-eq1 c = line-one _ _ _ _ c.if-path-eq1.true
-
-pub line_vertices-v-requires : goal.line_vertices-v-requires
-line_vertices-v-requires c = record { path_on = c.requires.path_on; path_nonzero = c.requires.path_nonzero.0 }
-
-pub overflow_add-e : goal.overflow_add-e
-overflow_add-e c = omega (arith, c.requires.path_on.most)
+pub returns-then-line-eq1-clause-value : goal.returns-then-line-eq1-clause-value
+returns-then-line-eq1-clause-value c = line-one _ _ _ (wires_of c.args.wires.now) c.if-line-eq1.true
 
 pub fits-requires : goal.fits-requires
 fits-requires c =
-    let L = path_line c.args.order c.args.nodes.now c.args.path.now in let k = kept-le L.kinds L.ways (length c.args.path.now - 1) in (c.requires.path_nonzero.1, omega (arith, c.line_vertices-v.ensures, c.requires.path_on.most), c.requires.path_nonzero.2, omega (arith, c.requires.path_on.most))
+    let L = line_in c.args.line in
+    let k = kept-le L.kinds L.ways (length c.args.line.path.now - 1) in
+    (omega (arith, c.args.wires.now.few_vertices), omega (arith, c.vertices.ensures, c.args.line.few), omega (arith, c.args.wires.now.few_ends), omega (arith, c.args.line.few))
 
-pub returns-then-not-fits : goal.returns-then-not-fits
-returns-then-not-fits c = line-over _ _ _ _ c.if-path-eq1.false _ c.line_vertices-v.ensures _ c.fits.ensures c.if-not-fits.true-raw
+pub returns-then-not-fits-clause-value : goal.returns-then-not-fits-clause-value
+returns-then-not-fits-clause-value c = line-over _ _ _ (wires_of c.args.wires.now) c.if-line-eq1.false _ c.vertices.ensures _ c.fits.ensures c.if-not-fits.true
 
-pub push_vertices-total-requires : goal.push_vertices-total-requires
-push_vertices-total-requires c = let v = fits-vertices _ _ _ _ _ c.fits.ensures c.if-not-fits.false-raw in let e = fits-ends _ _ _ _ _ c.fits.ensures c.if-not-fits.false-raw in record { path_on = c.requires.path_on; in_bounds = omega (arith, c.requires.path_nonzero.0, c.if-path-eq1.false); room = c.requires.room; path_bound = omega (arith, c.line_vertices-v.ensures); path_bound_2 = (e, c.requires.path_nonzero.3) }
+pub push_vertices-requires-clause-vertex_room : goal.push_vertices-requires-clause-vertex_room
+push_vertices-requires-clause-vertex_room c =
+    let v = fits-vertices c.args.wires.now.n c.vertices.result c.args.wires.now.m (length c.args.line.path.now + 1) _ c.fits.ensures c.if-not-fits.false in omega (arith, c.vertices.ensures)
 
-pub returns : goal.returns
-returns c =
-    line-done _ _ _ _ c.if-path-eq1.false _ c.line_vertices-v.ensures _ c.fits.ensures _ c.if-not-fits.false-raw c.push_vertices-total.ensures
+pub push_vertices-requires-clause-end_room : goal.push_vertices-requires-clause-end_room
+push_vertices-requires-clause-end_room c = fits-ends _ _ _ _ _ c.fits.ensures c.if-not-fits.false
+
+pub returns-clause-value : goal.returns-clause-value
+returns-clause-value c = line-done _ _ _ (wires_of c.args.wires.now) c.if-line-eq1.false _ c.vertices.ensures _ c.fits.ensures _ c.if-not-fits.false c.push_vertices.ensures.value

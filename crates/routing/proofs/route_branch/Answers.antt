@@ -1,29 +1,31 @@
--- What the wire ensures, and a row more where it was made.
-use Rattle.routing.proofs.Tries.{branch-tried, branch-refused, branch-joined}
-use Rattle.routing.proofs.Limits.{made}
+use Rattle.std.proofs.Common.{rules, refl, ◌≡◌}
 use native.Mathlib.Omega.{arith}
-use borrow.Author.Rules.{rules}
+use Rattle.book.specs.Refusals.{code, number_of}
+use Rattle.wire.specs.Lent.{wires_of}
+use Rattle.book.proofs.Refusals.{refused}
+use Rattle.routing.proofs.Alike.{branch-wire}
+use Rattle.routing.proofs.Limits.{made}
+use Rattle.routing.proofs.Tries.{branch-tried, branch-refused, branch-joined}
 use Rattle.routing.proofs.route_branch.Goals as goal
 
-pub joined_end-e-requires : goal.joined_end-e-requires
-joined_end-e-requires c = record { path_on = c.requires.path_on; m_nonzero = search rules }
+pub returns-in_err-route_wire-clause-value : goal.returns-in_err-route_wire-clause-value
+returns-in_err-route_wire-clause-value c =
+    let k : number_of c.from_residual.result ≡ code c.in_err-route_wire.field-0.0 = search rules in
+    branch-tried _ _ _ _ (wires_of c.args.wires.now) _ refl _ refl _ (rw k (branch-wire _ _ _ _ (wires_of c.args.wires.now) _ _ c.joined_end-end.ensures c.in_err-route_wire.ensures.value))
 
-pub route_wire-step-requires : goal.route_wire-step-requires
-route_wire-step-requires c = record { path_on = c.requires.path_on; room = c.requires.room; n_bound = (c.requires.n_bound.0, c.requires.n_bound.2, c.requires.n_bound.3) }
+pub returns-in_err-route_wire-clause-joins_value : goal.returns-in_err-route_wire-clause-joins_value
+returns-in_err-route_wire-clause-joins_value c =
+    branch-refused _ _ _ _ (wires_of c.args.wires.now) _ refl _ refl _ (branch-wire _ _ _ _ (wires_of c.args.wires.now) _ _ c.joined_end-end.ensures c.in_err-route_wire.ensures.value) _ _ (refused c.in_err-route_wire.field-0.0)
 
-pub returns-then-step-ne0 : goal.returns-then-step-ne0
-returns-then-step-ne0 c = record { m_value = branch-tried _ _ _ _ _ _ c.joined_end-e.ensures.0 _ c.junction_of-junction.ensures _ c.route_wire-step.ensures; joins_value = branch-refused _ _ _ _ _ _ c.joined_end-e.ensures.0 _ c.junction_of-junction.ensures _ c.route_wire-step.ensures _ _ c.if-step-ne0.true }
+pub overflow_sub-wires : goal.overflow_sub-wires
+overflow_sub-wires c =
+    let w = c.args.wires.now in
+    let k = made _ _ _ _ _ _ _ _ (wires_of w) _ c.in_ok-route_wire.ensures.value w.few_vertices w.few_ends refl in omega arith
 
-pub overflow_sub-last : goal.overflow_sub-last
-overflow_sub-last c =
-    let k = made _ _ _ _ _ _ _ _ _ _ c.route_wire-step.ensures c.requires.n_bound.0 c.requires.n_bound.2 c.if-step-ne0.false in omega arith
+pub returns-clause-value : goal.returns-clause-value
+returns-clause-value c =
+    branch-tried _ _ _ _ (wires_of c.args.wires.now) _ refl _ refl _ (branch-wire _ _ _ _ (wires_of c.args.wires.now) _ _ c.joined_end-end.ensures c.in_ok-route_wire.ensures.value)
 
-pub overflow_cast-last : goal.overflow_cast-last
-overflow_cast-last c =
-    let k = made _ _ _ _ _ _ _ _ _ _ c.route_wire-step.ensures c.requires.n_bound.0 c.requires.n_bound.2 c.if-step-ne0.false in omega arith
-
-pub put_junction-requires : goal.put_junction-requires
-put_junction-requires c = c.requires.j_bound
-
-pub returns : goal.returns
-returns c = record { m_value = branch-tried _ _ _ _ _ _ c.joined_end-e.ensures.0 _ c.junction_of-junction.ensures _ c.route_wire-step.ensures; joins_value = branch-joined _ _ _ _ _ _ c.joined_end-e.ensures.0 _ c.junction_of-junction.ensures _ c.route_wire-step.ensures _ _ _ c.if-step-ne0.false c.put_junction.ensures }
+pub returns-clause-joins_value : goal.returns-clause-joins_value
+returns-clause-joins_value c =
+    branch-joined _ _ _ _ (wires_of c.args.wires.now) _ refl _ refl _ (branch-wire _ _ _ _ (wires_of c.args.wires.now) _ _ c.joined_end-end.ensures c.in_ok-route_wire.ensures.value) _ _ _ refl (rw (← c.joined_end-end.ensures.vertex, ← c.joined_end-end.ensures.kind) c.push.ensures.value)

@@ -1,15 +1,9 @@
--- A line of no nodes is a fallback.
-use native.Mathlib.Omega.{arith}
+use Rattle.wire.specs.Lent.{wires_of}
 use Rattle.routing.proofs.Tries.{route-fallback, route-line}
 use Rattle.routing.proofs.route_wire.Goals as goal
 
-pub returns-then-path-eq0 : goal.returns-then-path-eq0
-returns-then-path-eq0 c =
-    route-fallback _ _ _ _ _ _ _ _ _ _ c.if-path-eq0.true c.fallback_wire.ensures
+pub returns-then-line-eq0-clause-value : goal.returns-then-line-eq0-clause-value
+returns-then-line-eq0-clause-value c = route-fallback _ _ _ _ _ _ _ _ (wires_of c.args.wires.now) _ c.if-line-eq0.true c.fallback_wire.ensures.value
 
-pub line_wire-requires : goal.line_wire-requires
-line_wire-requires c = record { path_on = c.requires.path_on; room = c.requires.room; path_nonzero = (omega (arith, c.if-path-eq0.false), c.requires.n_bound.0, c.requires.n_bound.1, c.requires.n_bound.2) }
-
-pub returns : goal.returns
-returns c =
-    route-line _ _ _ _ _ _ _ _ _ _ c.if-path-eq0.false c.line_wire.ensures
+pub returns-clause-value : goal.returns-clause-value
+returns-clause-value c = route-line _ _ _ _ _ _ _ _ (wires_of c.args.wires.now) _ c.if-line-eq0.false c.line_wire.ensures.value

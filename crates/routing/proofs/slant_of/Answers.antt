@@ -1,9 +1,13 @@
--- A pair below n * n is two endpoints.
-use Rattle.routing.proofs.Pairs.{first-in, second-in, slant-is}
+use Rattle.std.proofs.Math.ListN.{get_or-map}
+use Rattle.std.proofs.Common.{length, ◌/◌, ◌%◌}
+use Rattle.routing.specs.Roots.{slant, slant_of}
+use Rattle.wire.specs.declared.types.Place.{Place}
 use Rattle.routing.proofs.slant_of.Goals as goal
 
-pub slant-requires : goal.slant-requires
-slant-requires c = (first-in _ _ c.requires.0 c.requires.2, second-in _ _ c.requires.0, c.requires.1)
-
 pub returns : goal.returns
-returns c = slant-is _ _ _ _ _ c.slant.ensures
+unfolding slant slant_of
+returns c =
+    let ps = c.args.points.now in
+    let a = c.args.p / length ps in
+    let b = c.args.p % length ps in
+    rw (c.gap-3.ensures, c.gap.ensures, c.gap-2.ensures, get_or-map (λ (p : Place). p.x) ps a (record { x = 0; y = 0 }), get_or-map (λ (p : Place). p.x) ps b (record { x = 0; y = 0 }), get_or-map (λ (p : Place). p.y) ps a (record { x = 0; y = 0 }), get_or-map (λ (p : Place). p.y) ps b (record { x = 0; y = 0 }))

@@ -2,8 +2,8 @@
 use mathlib.Core.Path.{◌≡◌}
 use Prim.Native.Nat.{◌+◌}
 use lib.ListN.{drop}
-use Rattle.rows.specs.Rows.{count, keys, place}
+use Rattle.rows.specs.Rows.{keys, place}
 use Rattle.rows.proofs.find.Given as goal
 
 abbrev pub invariant-loop-i : goal.invariant-loop-i
-invariant-loop-i l = l.i + place l.key (drop l.i (keys l.w (count l.area) l.area)) ≡ place l.key (keys l.w (count l.area) l.area)
+invariant-loop-i l = l.i + place l.key (drop l.i (keys l.w l.n l.area)) ≡ place l.key (keys l.w l.n l.area)

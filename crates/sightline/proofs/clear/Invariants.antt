@@ -1,9 +1,0 @@
--- What the boxes that were passed block.
-use Rattle.std.proofs.Common.{◌≡◌}
-use Rattle.sightline.specs.Count.{any}
-use Rattle.sightline.specs.Sight.{box_stops}
-use Rattle.sightline.specs.Lent.{line}
-use Rattle.sightline.proofs.clear.Given as goal
-
-abbrev pub invariant-loop-i : goal.invariant-loop-i
-invariant-loop-i l = l.blocked ≡ any (box_stops (line l.boxes l.along l.c l.ignore) l.a l.b) l.i
