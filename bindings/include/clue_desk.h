@@ -112,8 +112,8 @@ extern "C" {
 #define CLUE_DESK_KIND_NET 2
 #define CLUE_DESK_KIND_END 3
 
-/* Bytes of stack that suffice for a call; measured, not proved: layout takes 572,112 of a thread's, search 502,400, the other calls
- * 15,448. */
+/* Bytes of stack that suffice for a call; measured, not proved: layout takes 518,552 of a thread's, search 452,952, the other calls
+ * 17,448 at most. */
 #define CLUE_DESK_STACK 655360
 
 /* A port's directions are a sum of these; the direction onward of a line's node is one of them. */
