@@ -17,8 +17,8 @@ fn whole(boxes: &[PaddedBox], anchors: &[Anchor], explicit: usize, graph: &mut G
     requires few { length anchors.now ≤ COORDS }
     ensures { Built result (graph_of graph.new) (whole (boxes_of boxes.now) (anchors_of anchors.now explicit)) }
 {
-    let mut ax = [0; fixed::COORDS];
-    let mut ay = [0; fixed::COORDS];
+    let mut ax = [0i32; fixed::COORDS];
+    let mut ay = [0i32; fixed::COORDS];
     let mut nx = 0;
     let mut ny = 0;
     for anchor in anchors {

@@ -1,5 +1,6 @@
 -- What the functions are lent, and what they keep.
-use Rattle.std.specs.Prelude.{◌≡◌, List, ℕ, length}
+use Rattle.std.specs.Prelude.{◌≡◌, List, ℕ, ℤ, length}
+use Rattle.fixed.specs.Up.{ups}
 use Rattle.fixed.specs.declared.Anchor.{Anchor as Lent}
 use Rattle.fixed.specs.declared.PaddedBox.{PaddedBox}
 use Rattle.fixed.specs.Boxes.{min_xs, min_ys, max_xs, max_ys, anchor_xs, anchor_ys, directions_of, ignored_of}
@@ -15,15 +16,15 @@ use Rattle.scan.specs.Walk.{Way}
 use Rattle.scan.specs.Scan.{Page, Anchor, Anchors}
 
 -- the boxes and the axis lists
-abbrev pub page : List PaddedBox → List ℕ → List ℕ → Page
+abbrev pub page : List PaddedBox → List ℤ → List ℤ → Page
 page boxes ax ay =
-    record { min_x = min_xs boxes; min_y = min_ys boxes; max_x = max_xs boxes; max_y = max_ys boxes; boxes = length boxes; axis_x = ax; axis_y = ay }
+    record { min_x = min_xs boxes; min_y = min_ys boxes; max_x = max_xs boxes; max_y = max_ys boxes; boxes = length boxes; axis_x = ups ax; axis_y = ups ay }
 
 abbrev pub page_in : LentPage → Page
 page_in p = page p.boxes.now p.ax.now p.ay.now
 
 abbrev pub way_in : LentWay → Way
-way_in w = record { dir = index w.dir; across = w.across; axis = w.axis.now; from = w.from }
+way_in w = record { dir = index w.dir; across = w.across; axis = ups w.axis.now; from = w.from }
 
 -- an anchor, and a list of anchors of which the first `explicit` are the explicit ones
 abbrev pub anchor_in : Lent → Anchor

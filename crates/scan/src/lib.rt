@@ -2,8 +2,9 @@
 #![tactic(auto)]
 
 ghost use Rattle.std.specs.Prelude.{◌≡◌, ◌<◌, ◌≤◌, cond, ltb, length};
+ghost use Rattle.fixed.specs.Up.{ups};
 ghost use Rattle.sightline.specs.Sight.{Rising};
-ghost use Rattle.sightline.specs.Beyond.{index, axis_of};
+ghost use Rattle.sightline.specs.Beyond.{index, axis_of, axis};
 ghost use Rattle.sightline.specs.Lent.{line};
 ghost use Rattle.nodes.specs.Graph.{empty};
 ghost use Rattle.nodes.specs.Columns.{graph_of};
@@ -24,8 +25,8 @@ const ALL: u32 = 15;
 #[derive(Clone, Copy, Debug, PartialEq, Eq)]
 pub struct Page<'a> {
     pub boxes: &'a [PaddedBox],
-    pub ax: &'a [u32],
-    pub ay: &'a [u32],
+    pub ax: &'a [i32],
+    pub ay: &'a [i32],
 }
 
 // The way of a scan: its direction, the coordinate across it, the axis list that it follows, and the anchor's index on that list.
@@ -33,7 +34,7 @@ pub struct Page<'a> {
 struct Way<'a> {
     dir: Direction,
     across: u32,
-    axis: &'a [u32],
+    axis: &'a [i32],
     from: usize,
 }
 
@@ -59,12 +60,12 @@ impl Way<'_> {
     #[tactic(auto, using(crate::proofs::Reaches::ways))]
     fn along(self, k: usize) -> u32
         requires { (self.from < length self.axis.now) × (k < room (index self.dir) self.from (length self.axis.now)) }
-        ensures { result ≡ along self.entry.axis.now (index self.entry.dir) self.entry.from k }
+        ensures { result ≡ along (ups self.entry.axis.now) (index self.entry.dir) self.entry.from k }
     {
         if self.dir.is_ahead() {
-            self.axis[self.from + (k + 1)]
+            fixed::at(self.axis, self.from + (k + 1))
         } else {
-            self.axis[self.from - (k + 1)]
+            fixed::at(self.axis, self.from - (k + 1))
         }
     }
 
@@ -81,18 +82,19 @@ impl Way<'_> {
     }
 
     // How many coordinates next to the anchor are clear.
-    fn reach(self, boxes: &[PaddedBox], anchor: u32, ignore: usize) -> usize
-        requires rising { Rising self.axis.now }
+    fn reach(self, page: Page, anchor: u32, ignore: usize) -> usize
+        requires follows { self.axis.now ≡ axis self.dir page.ax.now page.ay.now }
+        requires rising { Rising (ups self.axis.now) }
         requires from_in { self.from < length self.axis.now }
-        ensures { result ≡ reach (line boxes.now (axis_of self.entry.dir) self.entry.across ignore) anchor (index self.entry.dir) self.entry.axis.now self.entry.from }
+        ensures { result ≡ reach (line page.entry.boxes.now (axis_of self.entry.dir) self.entry.across ignore) anchor (index self.entry.dir) (ups self.entry.axis.now) self.entry.from }
     {
         let line = Line {
-            boxes,
+            boxes: page.boxes,
             along: self.dir.axis(),
             at: self.across,
             ignore,
         };
-        let part = sightline::beyond(self.axis, self.dir, self.from);
+        let part = sightline::beyond(page.ax, page.ay, self.dir, self.from);
         let ahead = self.dir.is_ahead();
         let cut = line.cutoff(anchor, part, 0, ahead);
         if ahead { cut } else { self.from - cut }
@@ -172,7 +174,7 @@ impl Builder<'_> {
                 anchor.y,
             ),
         };
-        let m = way.reach(self.page.boxes, at, anchor.ignored as usize);
+        let m = way.reach(self.page, at, anchor.ignored as usize);
         self.walk(way, start.node, m)
     }
 

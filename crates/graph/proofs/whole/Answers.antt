@@ -1,5 +1,7 @@
 -- The axis lists are the first words of two arrays; on them the graph is built.
-use Rattle.std.proofs.Common.{◌≡◌, length, take, refl, arith}
+use Rattle.std.proofs.Common.{◌≡◌, ◌∙◌, length, take, refl, arith}
+use Rattle.fixed.specs.Up.{ups}
+use Rattle.fixed.proofs.Lists.{ups-take}
 use Rattle.fixed.specs.Boxes.{anchor_xs, anchor_ys}
 use Rattle.axis.specs.Axis.{axis, inserts}
 use Rattle.axis.proofs.Axis.{axis-sorted}
@@ -30,7 +32,7 @@ loop-anchor-preserved c =
 pub build-requires : goal.build-requires
 build-requires c =
     let i = c.loop-anchor.invariant in
-    record { x_rising = rw i.x_axis (axis-rising _ _); y_rising = rw i.y_axis (axis-rising _ _) }
+    record { x_rising = rw (ups-take, i.x_axis) (axis-rising _ _); y_rising = rw (ups-take, i.y_axis) (axis-rising _ _) }
 
 pub returns : goal.returns
 unfolding whole
@@ -38,6 +40,6 @@ returns c =
     let a = c.args.anchors.now in
     let i = c.loop-anchor.invariant in
     let e : c.loop-anchor.anchor-index ≡ length a = omega arith in
-    let x : take c.loop-anchor.nx c.loop-anchor.ax ≡ axis (anchor_xs a) (length a) = rw e at i.x_axis in
-    let y : take c.loop-anchor.ny c.loop-anchor.ay ≡ axis (anchor_ys a) (length a) = rw e at i.y_axis in
+    let x : ups (take c.loop-anchor.nx c.loop-anchor.ax) ≡ axis (anchor_xs a) (length a) = ups-take _ _ ∙ rw e at i.x_axis in
+    let y : ups (take c.loop-anchor.ny c.loop-anchor.ay) ≡ axis (anchor_ys a) (length a) = ups-take _ _ ∙ rw e at i.y_axis in
     rw (x, y) at c.build.ensures

@@ -1,7 +1,7 @@
 use Rattle.std.proofs.Common.{sym, ◌∙◌, arith}
 use Rattle.scan.specs.Scan.{toward}
 use Rattle.scan.specs.Walk.{scan}
-use Rattle.scan.proofs.Reaches.{side-x, side-y, reach-within}
+use Rattle.scan.proofs.Reaches.{side-x, side-y, reach-fits}
 use Rattle.scan.proofs.Builder.toward.Goals.{in-X, in-Y}
 use Rattle.scan.proofs.Builder.toward.Goals as goal
 
@@ -12,8 +12,8 @@ returns-then-not-has-clause-built c = rw (sym c.has.ensures ∙ c.if-not-has.tru
 pub walk-requires-clause-from_in : goal.walk-requires-clause-from_in
 walk-requires-clause-from_in c =
     elim c.match-axis.branch [
-      | in-X w ↦ rw (c.reach-m.ensures, w.at-is) (omega arith, reach-within _ _ _ _ _ (omega arith))
-      | in-Y w ↦ rw (c.reach-m.ensures, w.at-is) (omega arith, reach-within _ _ _ _ _ (omega arith))
+      | in-X w ↦ rw (c.reach-m.ensures, w.at-is) (omega arith, reach-fits _ _ _ _ _ (omega arith))
+      | in-Y w ↦ rw (c.reach-m.ensures, w.at-is) (omega arith, reach-fits _ _ _ _ _ (omega arith))
     ]
 
 pub returns-clause-built : goal.returns-clause-built
