@@ -1,24 +1,33 @@
 -- By a bound of the view the boxes need not be asked again.
-use Rattle.std.proofs.Common.{rules, pos, refl, length, arith, true, false, ltb, leb, Some, None}
-use Rattle.std.proofs.lemmas.List.Sorted.{IsPartitionPoint-from_clause, IsPartitionedBy-ltb, IsPartitionedBy-leb}
-use Rattle.fixed.specs.Up.{up}
+use Rattle.std.proofs.Common.{◌+◌, refl, length, arith, true, false, Some, None}
+use borrow.Author.Tests.{lt-ltb, le-ltb, le-leb, lt-leb}
+use Rattle.fixed.specs.Up.{ups}
+use Rattle.fixed.proofs.Lists.{length-ups}
 use Rattle.sightline.specs.Bound.{before}
-use Rattle.sightline.proofs.Halves.{lead-ups, rises-ups, cutoff-by}
+use Rattle.sightline.proofs.Halves.{lead-is, lead-ranked, cutoff-by}
 use Rattle.sightline.proofs.Line.cutoff.Goals as goal
 use Rattle.sightline.proofs.Line.cutoff.Goals.{in-Some, in-Some-2, in-None, in-None-2}
 
+pub rank-count-requires : goal.rank-count-requires
+rank-count-requires c = λ j k h l. c.requires.rising.rising j k h (omega (arith, length-ups c.args.coords.now))
+
+pub rank-count-requires-in-Some-2 : goal.rank-count-requires-in-Some-2
+rank-count-requires-in-Some-2 c = λ j k h l. c.requires.rising.rising j k h (omega (arith, length-ups c.args.coords.now))
+
 pub returns : goal.returns
 returns c =
-    let rises = rises-ups c.args.coords.now c.requires.rising in
+    let xs = c.args.coords.now in
     elim c.match-bound.branch [
       | in-Some w ↦
-          let point = IsPartitionPoint-from_clause (λ x. ltb (up x) w.in-Some.edge) _ _ w.partition_point-count.ensures.partitioned (IsPartitionedBy-ltb up _ _ rises) (λ a r q k. search rules) in
-          cutoff-by _ _ _ (Some w.in-Some.edge) _ _ _ c.requires.rising w.in-Some.ensures (rw (w.count-is, w.if-ahead.true) (lead-ups (before true (Some w.in-Some.edge)) c.args.coords.now _ w.partition_point-count.ensures.bound (λ k h. point.0 k (pos 0) (omega arith) h) (λ k h lt. point.1 k (pos 0) h lt)))
+          let e = w.in-Some.edge in
+          let r = w.rank-count.ensures in
+          cutoff-by _ _ _ (Some e) _ _ _ c.requires.rising w.in-Some.ensures (rw (w.count-is, w.if-ahead.true) (lead-ranked (before true (Some e)) xs e _ (λ x h. lt-ltb x e h) (λ x h. le-ltb x e h) r.bound r.below r.onward))
       | in-Some-2 w ↦
-          let point = IsPartitionPoint-from_clause (λ x. leb (up x) w.in-Some-2.edge) _ _ w.partition_point-count-in-Some-2.ensures.partitioned (IsPartitionedBy-leb up _ _ rises) (λ a r q k. search rules) in
-          cutoff-by _ _ _ (Some w.in-Some-2.edge) _ _ _ c.requires.rising w.in-Some-2.ensures (rw (w.count-is, w.if-ahead.false) (lead-ups (before false (Some w.in-Some-2.edge)) c.args.coords.now _ w.partition_point-count-in-Some-2.ensures.bound (λ k h. point.0 k (pos 0) (omega arith) h) (λ k h lt. point.1 k (pos 0) h lt)))
+          let e = w.in-Some.edge in
+          let r = w.rank-count-in-Some-2.ensures in
+          cutoff-by _ _ _ (Some e) _ _ _ c.requires.rising w.in-Some.ensures (rw (w.count-is, w.if-ahead.false) (lead-ranked (before false (Some e)) xs (e + 1) _ (λ x h. le-leb x e (omega arith)) (λ x h. lt-leb x e (omega arith)) r.bound r.below r.onward))
       | in-None w ↦
-          cutoff-by _ _ _ None _ _ _ c.requires.rising w.in-None.ensures (rw (w.count-is, w.if-ahead-2.true) (lead-ups (before true None) c.args.coords.now (length c.args.coords.now) (omega arith) (λ k h. refl) (λ k h lt. absurd (omega arith))))
+          cutoff-by _ _ _ None _ _ _ c.requires.rising w.in-None.ensures (rw (w.count-is, w.if-ahead-2.true) (lead-is (before true None) (ups xs) (length xs) (omega (arith, length-ups xs)) (λ k h. refl) (λ k h lt. absurd (omega (arith, length-ups xs)))))
       | in-None-2 w ↦
-          cutoff-by _ _ _ None _ _ _ c.requires.rising w.in-None-2.ensures (rw (w.count-is, w.if-ahead-2.false) (lead-ups (before false None) c.args.coords.now 0 (omega arith) (λ k h. absurd (omega arith)) (λ k h lt. refl)))
+          cutoff-by _ _ _ None _ _ _ c.requires.rising w.in-None-2.ensures (rw (w.count-is, w.if-ahead-2.false) (lead-is (before false None) (ups xs) 0 (omega arith) (λ k h. absurd (omega arith)) (λ k h lt. refl)))
     ]
