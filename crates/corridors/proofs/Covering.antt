@@ -2,10 +2,13 @@
 use Rattle.std.proofs.Common.{◌≡◌, refl, ap, ◌∙◌, Bool, true, false, ◌&&◌, ◌||◌, ◌<◌, ◌≤◌, ℕ, zero, suc, ◌+◌, ◌-◌, List, length, get_or, replicate, arith, add-one}
 use Rattle.std.proofs.lemmas.List.{get_or-replicate, length-replicate}
 use lib.Dec.{ltb, leb}
+use lib.IntN.{ℤ}
+use Rattle.fixed.specs.Up.{ups}
 use Rattle.fixed.specs.declared.Axis.{Axis}
 use Rattle.fixed.specs.declared.PaddedBox.{PaddedBox}
 use Rattle.fixed.specs.Boxes.{across, least, greatest}
 use Rattle.fixed.proofs.Boxes.{leasts-at, greatests-at}
+use Rattle.fixed.proofs.Lists.{length-ups}
 use Rattle.corridors.specs.Grid.{Boxes, seen, covers, covered, filled, with_cell, runs, row_runs}
 use Rattle.corridors.specs.Lent.{MarkedSpan, MarkedRow, listed}
 
@@ -52,6 +55,10 @@ pub row-listed : (b : Boxes) (xs ys : List ℕ) (i : ℕ) (l : List Bool) → le
 unfolding row_runs
 row-listed b xs ys i l e r = runs-listed b xs (get_or ys i 0) (length xs - 1) l e r
 
+-- the coordinates are lent
+pub lent-listed : (b : Boxes) (xs : List ℤ) (ys : List ℕ) (i : ℕ) (l : List Bool) → length l ≡ length xs - 1 → MarkedRow b (get_or ys i 0) b.count (ups xs) l → listed l (length l) ≡ row_runs b (ups xs) ys i
+lent-listed b xs ys i l e r = row-listed b (ups xs) ys i l (omega (arith, length-ups xs)) r
+
 pub ruleset marking = (row-begin, row-over, row-on)
 
-pub ruleset marked = (row-listed)
+pub ruleset marked = (lent-listed)

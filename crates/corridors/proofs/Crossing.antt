@@ -3,11 +3,14 @@ use Rattle.std.proofs.Common.{◌≡◌, refl, sym, ap, ◌∙◌, cond, ◌<◌
 use Rattle.std.proofs.lemmas.List.{length-append, length-map, length-take-le, append_assoc, append-nil, replicate_more, replicate-append-replicate}
 use borrow.Author.Tests.{lt-ltb, le-ltb}
 use lib.Dec.{ltb}
+use lib.IntN.{ℤ}
+use Rattle.fixed.specs.Up.{ups}
 use Rattle.fixed.specs.declared.Axis.TheVariants.{X, Y}
 use Rattle.fixed.specs.declared.Anchor.{Anchor}
 use Rattle.fixed.specs.declared.PaddedBox.{PaddedBox}
 use Rattle.fixed.specs.Boxes.{anchor_xs, anchor_ys, directions_of, ignored_of}
 use Rattle.fixed.specs.Steps.{middle}
+use Rattle.fixed.proofs.Lists.{length-ups, ups-take}
 use Rattle.axis.specs.Axis.{edges}
 use Rattle.axis.proofs.Axis.{edges-below}
 use Rattle.corridors.specs.declared.row.Row.{Row}
@@ -133,3 +136,11 @@ answered-full bs xs ys s l = first-full (stacked bs) (turned (stacked bs)) xs ys
 
 pub axis-inside : (a b : List ℕ) (n : ℕ) (l : List ℕ) → l ≡ edges a b n → Inside n a → Inside n b → Inside (length l) l
 axis-inside a b n l e ia ib = rw e (record { inside = edges-below 4294967295 a b n ia.inside ib.inside })
+
+-- the lent list, of which the first k are the edges
+module _ (a b : List ℕ) (n k : ℕ) (l : List ℤ) (e : take k (ups l) ≡ edges a b n) where
+  pub lent-edges : ups (take k l) ≡ edges a b n
+  lent-edges = ups-take k l ∙ e
+
+  pub lent-inside : Inside n a → Inside n b → Inside (length (take k l)) (ups (take k l))
+  lent-inside ia ib = rw length-ups at (axis-inside a b n (ups (take k l)) lent-edges ia ib)

@@ -1,6 +1,11 @@
 -- The anchors of a run, of a row's runs, and of all rows.
 use Rattle.std.proofs.Common.{◌≡◌, refl, sym, ◌∙◌, Bool, true, false, cond, ◌<◌, ◌≤◌, ℕ, zero, suc, ◌+◌, ◌-◌, ◌/◌, ◌%◌, List, [], ◌∷◌, ◌++◌, length, get_or, take, set, replicate, arith}
-use Rattle.std.proofs.lemmas.List.{length-append, length-map, length-take-le, map-append, append-nil, append_assoc, replicate-append-replicate, get_or-set_other}
+use Rattle.std.proofs.lemmas.List.{length-append, length-map, length-take-le, map-append, append-nil, append_assoc, replicate-append-replicate, get_or-set_other, get_or_past}
+use borrow.Author.Tests.{ltb-true, ltb-false}
+use lib.Dec.{ltb}
+use lib.IntN.{ℤ}
+use Rattle.fixed.specs.Up.{ups}
+use Rattle.fixed.proofs.Lists.{length-ups}
 use Rattle.fixed.specs.declared.Axis.{Axis}
 use Rattle.fixed.specs.declared.Axis.TheVariants.{X, Y}
 use Rattle.fixed.specs.declared.Anchor.{Anchor}
@@ -11,9 +16,23 @@ use Rattle.corridors.specs.declared.row.Row.{Row}
 use Rattle.corridors.specs.Sizes.{SPAN, ANCHORS, NONE}
 use Rattle.corridors.specs.Grid.{Boxes, start, end, all_runs}
 use Rattle.corridors.specs.Merge.{Table, Plan, has, swap_remove, take_out, yield, corridor, fold, row_corridors, corridors}
+use Rattle.corridors.specs.Answer.{Inside}
 use Rattle.corridors.specs.Lent.{run, table, taken, way, anchor, alongs, plan, Directed, Emit, Put}
 use Rattle.corridors.proofs.Rows.{run-ends}
 use Rattle.corridors.proofs.Folds.{Grows, fold-grows, Folding, fold-begin, fold_on, fold-full, fold_end}
+
+-- ---- a coordinate
+
+pub coord-off : (l : List ℤ) (i : ℕ) → length l ≤ i → 0 ≡ get_or (ups l) i 0
+coord-off l i h = sym (get_or_past (ups l) i 0 (omega (arith, length-ups l)))
+
+-- a step beyond any coordinate there is another
+pub inside-any : (l : List ℤ) (k : ℕ) → Inside (length l) (ups l) → get_or (ups l) k 0 < 4294967295
+inside-any l k s = by (ltb k (length l)) refl
+  where
+    by : (t : Bool) → ltb k (length l) ≡ t → get_or (ups l) k 0 < 4294967295
+    by true e = s.inside k (ltb-true k (length l) e)
+    by false e = omega (arith, coord-off l k (ltb-false k (length l) e))
 
 -- ---- two anchors more
 
@@ -125,6 +144,10 @@ pub whole : (b : Boxes) (xs ys : List ℕ) (n : ℕ) (t : Table) (a c : List ℕ
 unfolding corridors
 whole b xs ys n t a c e q = rw (q, e)
 
+-- the coordinates are lent
+pub whole-lent : (b : Boxes) (xs : List ℕ) (ys : List ℤ) (n : ℕ) (t : Table) (a c : List ℕ) → n ≡ length ys - 1 → t ≡ all_runs b xs (ups ys) 0 n → fold (row_corridors xs (ups ys) n) 0 n (record { rows = t; along = a; across = c }) ≡ corridors b xs (ups ys) a c
+whole-lent b xs ys n t a c e q = whole b xs (ups ys) n t a c (omega (arith, length-ups ys)) q
+
 pub ruleset going = (row-grows, going-full, going-end)
 
-pub ruleset whole_plan = (whole)
+pub ruleset whole_plan = (whole-lent)

@@ -3,6 +3,7 @@
 
 ghost use Rattle.std.specs.Prelude.{◌≡◌, ◌+◌, ◌-◌, ◌<◌, ◌≤◌, length, get_or, take, drop, ◌++◌, [], ◌∷◌};
 ghost use Rattle.fixed.specs.Constants.{BOXES};
+ghost use Rattle.fixed.specs.Up.{ups};
 ghost use Rattle.fixed.specs.Steps.{middle};
 ghost use Rattle.fixed.specs.Boxes.{across};
 ghost use Rattle.corridors.specs.Sizes.{EDGES, ANCHORS};
@@ -13,7 +14,7 @@ ghost use Rattle.corridors.specs.Lent.{run, table, taken, MarkedSpan, MarkedRow,
 
 mod row;
 
-use fixed::{Anchor, Axis, PaddedBox, get_or};
+use fixed::{Anchor, Axis, PaddedBox};
 use row::{CELLS, Row, Run};
 
 // The most edges of the boxes on an axis.
@@ -30,13 +31,21 @@ const Y: u32 = 12;
 const NONE: u32 = 4294967295;
 
 // Marks the cells that begin from f to before t.
-fn mark_cells(marks: &mut [bool], xs: &[u32], f: u32, t: u32)
+fn mark_cells(marks: &mut [bool], xs: &[i32], f: u32, t: u32)
     requires { length marks.old ≤ length xs.now }
-    ensures { MarkedSpan f t xs.now marks.old marks.new }
+    ensures { MarkedSpan f t (ups xs.now) marks.old marks.new }
 {
     for k in 0..marks.len() {
-        marks[k] = marks[k] | ((f <= xs[k]) & (xs[k] < t));
+        let x = fixed::at(xs, k);
+        marks[k] = marks[k] | ((f <= x) & (x < t));
     }
+}
+
+// The steps of the coordinate i, or 0.
+fn coord(xs: &[i32], i: usize) -> u32
+    ensures { result ≡ get_or (ups xs.now) i 0 }
+{
+    if i < xs.len() { fixed::at(xs, i) } else { 0 }
 }
 
 // Takes the run v out of each row from `from` on until a row lacks it: that row, or their count.
@@ -78,10 +87,10 @@ fn anchor(along: Axis, u: u32, w: u32) -> Anchor
 struct Grid<'a> {
     boxes: &'a [PaddedBox],
     along: Axis,
-    xs: &'a [u32],
-    ys: &'a [u32],
+    xs: &'a [i32],
+    ys: &'a [i32],
     ghost few: { length xs.now ≤ EDGES },
-    ghost inside: { Inside (length xs.now) xs.now },
+    ghost inside: { Inside (length xs.now) (ups xs.now) },
 }
 
 impl Grid<'_> {
@@ -89,7 +98,7 @@ impl Grid<'_> {
     #[tactic(auto, using(crate::proofs::Covering::marking))]
     fn mark_row(&self, marks: &mut [bool], y: u32)
         requires { length marks.old ≤ length self.now.xs.now }
-        ensures { MarkedRow (seen self.now.along self.now.boxes.now) y (length self.now.boxes.now) self.now.xs.now marks.new }
+        ensures { MarkedRow (seen self.now.along self.now.boxes.now) y (length self.now.boxes.now) (ups self.now.xs.now) marks.new }
     {
         let across = self.along.across();
         marks.fill(false);
@@ -104,12 +113,12 @@ impl Grid<'_> {
     #[tactic(auto, using(crate::proofs::Filling::rows, crate::proofs::Covering::marked))]
     fn all_runs(&self, rows: &mut [Row])
         requires { length rows.old ≤ length self.now.ys.now }
-        ensures { table rows.new ≡ all_runs (seen self.now.along self.now.boxes.now) self.now.xs.now self.now.ys.now 0 (length rows.old) }
+        ensures { table rows.new ≡ all_runs (seen self.now.along self.now.boxes.now) (ups self.now.xs.now) (ups self.now.ys.now) 0 (length rows.old) }
     {
         let mut marks = [false; CELLS];
         let marks = &mut marks[..self.xs.len().saturating_sub(1)];
         for i in 0..rows.len() {
-            self.mark_row(marks, self.ys[i]);
+            self.mark_row(marks, fixed::at(self.ys, i));
             rows[i].list_runs(marks);
         }
     }
@@ -124,14 +133,14 @@ impl Grid<'_> {
         made: usize,
     ) -> Option<usize>
         requires { (made ≤ ANCHORS) × (ANCHORS ≤ length anchors.old) }
-        ensures { let g = self.now in Emitted g.along made result anchors.old anchors.new (get_or g.xs.now v.start 0 + 1) (get_or g.xs.now v.end 0 - 1) (middle (get_or g.ys.now i 0) (get_or g.ys.now top 0)) }
+        ensures { let g = self.now in Emitted g.along made result anchors.old anchors.new (get_or (ups g.xs.now) v.start 0 + 1) (get_or (ups g.xs.now) v.end 0 - 1) (middle (get_or (ups g.ys.now) i 0) (get_or (ups g.ys.now) top 0)) }
     {
         if ANCHORS < made + 2 {
             return None;
         }
-        let lo = get_or(self.xs, v.start as usize, 0) + fixed::EPSILON;
-        let hi = get_or(self.xs, v.end as usize, 0).saturating_sub(fixed::EPSILON);
-        let mid = fixed::middle(get_or(self.ys, i, 0), get_or(self.ys, top, 0));
+        let lo = coord(self.xs, v.start as usize) + fixed::EPSILON;
+        let hi = coord(self.xs, v.end as usize).saturating_sub(fixed::EPSILON);
+        let mid = fixed::middle(coord(self.ys, i), coord(self.ys, top));
         anchors[made] = anchor(self.along, lo, mid);
         anchors[made + 1] = anchor(self.along, hi, mid);
         Some(made + 2)
@@ -146,7 +155,7 @@ impl Grid<'_> {
         begin: usize,
     ) -> Option<usize>
         requires { (i < length rows.old) × (begin ≤ ANCHORS) × (ANCHORS ≤ length anchors.old) }
-        ensures { let g = self.now in Laid g.along begin result anchors.old anchors.new rows.new (row_corridors g.xs.now g.ys.now (length rows.old) i (plan g.along rows.old (take begin anchors.old))) }
+        ensures { let g = self.now in Laid g.along begin result anchors.old anchors.new rows.new (row_corridors (ups g.xs.now) (ups g.ys.now) (length rows.old) i (plan g.along rows.old (take begin anchors.old))) }
     {
         let mut made = begin;
         for j in 0..rows[i].runs().len() {
@@ -161,7 +170,7 @@ impl Grid<'_> {
     #[tactic(auto, using(crate::proofs::Laying::going))]
     fn merged(&self, rows: &mut [Row], anchors: &mut [Anchor], begin: usize) -> Option<usize>
         requires { (begin ≤ ANCHORS) × (ANCHORS ≤ length anchors.old) }
-        ensures { let g = self.now in Laid g.along begin result anchors.old anchors.new rows.new (fold (row_corridors g.xs.now g.ys.now (length rows.old)) 0 (length rows.old) (plan g.along rows.old (take begin anchors.old))) }
+        ensures { let g = self.now in Laid g.along begin result anchors.old anchors.new rows.new (fold (row_corridors (ups g.xs.now) (ups g.ys.now) (length rows.old)) 0 (length rows.old) (plan g.along rows.old (take begin anchors.old))) }
     {
         let mut made = begin;
         for i in 0..rows.len() {
@@ -174,7 +183,7 @@ impl Grid<'_> {
     #[tactic(auto, using(crate::proofs::Laying::whole_plan))]
     fn corridors(&self, rows: &mut [Row], anchors: &mut [Anchor], begin: usize) -> Option<usize>
         requires { (length rows.old ≡ length self.now.ys.now - 1) × (begin ≤ ANCHORS) × (ANCHORS ≤ length anchors.old) }
-        ensures { let g = self.now in let s = take begin anchors.old in Laid g.along begin result anchors.old anchors.new rows.new (corridors (seen g.along g.boxes.now) g.xs.now g.ys.now (alongs g.along s) (alongs (across g.along) s)) }
+        ensures { let g = self.now in let s = take begin anchors.old in Laid g.along begin result anchors.old anchors.new rows.new (corridors (seen g.along g.boxes.now) (ups g.xs.now) (ups g.ys.now) (alongs g.along s) (alongs (across g.along) s)) }
     {
         self.all_runs(rows);
         self.merged(rows, anchors, begin)
@@ -188,8 +197,8 @@ fn implicit_anchors(boxes: &[PaddedBox], anchors: &mut [Anchor]) -> Option<usize
     requires edges_bound { Bounded boxes.now }
     ensures { Answered result anchors.new (anchors_of (stacked boxes.now)) }
 {
-    let mut xs = [0; EDGES];
-    let mut ys = [0; EDGES];
+    let mut xs = [0i32; EDGES];
+    let mut ys = [0i32; EDGES];
     let nx = axis::edges(&mut xs, boxes, Axis::X);
     let ny = axis::edges(&mut ys, boxes, Axis::Y);
     let (xs, ys) = (&xs[..nx], &ys[..ny]);

@@ -1,19 +1,20 @@
 -- The axis lists are the sorted distinct edges; the rows along x first, then those along y.
 use Rattle.std.proofs.Common.{◌≡◌, ℕ, ◌-◌, length, take, sym, ap, ◌∙◌, arith}
 use Rattle.std.proofs.lemmas.List.{length-take-le, length-take, length-append, length-drop}
+use Rattle.fixed.specs.Up.{ups}
 use Rattle.corridors.specs.declared.row.Row.{Row}
 use Rattle.corridors.specs.Grid.{stacked}
 use Rattle.corridors.specs.Rules.{xs_of, ys_of}
-use Rattle.corridors.proofs.Crossing.{answered, answered-full, axis-inside}
+use Rattle.corridors.proofs.Crossing.{answered, answered-full, lent-edges, lent-inside}
 use Rattle.corridors.proofs.implicit_anchors.Goals as goal
 
 pub invariant_of-level_grid-clause-inside : goal.invariant_of-level_grid-clause-inside
 invariant_of-level_grid-clause-inside c =
-    axis-inside _ _ _ _ c.edges-nx.ensures.axis_value c.requires.edges_bound.min_x_inside c.requires.edges_bound.max_x_inside
+    lent-inside _ _ _ _ _ c.edges-nx.ensures.axis_value c.requires.edges_bound.min_x_inside c.requires.edges_bound.max_x_inside
 
 pub invariant_of-upright_grid-clause-inside : goal.invariant_of-upright_grid-clause-inside
 invariant_of-upright_grid-clause-inside c =
-    axis-inside _ _ _ _ c.edges-ny.ensures.axis_value c.requires.edges_bound.min_y_inside c.requires.edges_bound.max_y_inside
+    lent-inside _ _ _ _ _ c.edges-ny.ensures.axis_value c.requires.edges_bound.min_y_inside c.requires.edges_bound.max_y_inside
 
 pub corridors-requires : goal.corridors-requires
 corridors-requires c =
@@ -23,7 +24,9 @@ corridors-requires c =
 
 pub returns-in_err-level : goal.returns-in_err-level
 returns-in_err-level c =
-    rw c.from_residual.ensures (answered-full c.args.boxes.now (xs_of (stacked c.args.boxes.now)) (ys_of (stacked c.args.boxes.now)) c.args.anchors.now (rw (c.edges-nx.ensures.axis_value, c.edges-ny.ensures.axis_value) at c.in_err-level.ensures))
+    let ex : ups (take c.edges-nx.result c.edges-nx.new.axis) ≡ xs_of (stacked c.args.boxes.now) = lent-edges _ _ _ _ _ c.edges-nx.ensures.axis_value in
+    let ey : ups (take c.edges-ny.result c.edges-ny.new.axis) ≡ ys_of (stacked c.args.boxes.now) = lent-edges _ _ _ _ _ c.edges-ny.ensures.axis_value in
+    rw c.from_residual.ensures (answered-full c.args.boxes.now (xs_of (stacked c.args.boxes.now)) (ys_of (stacked c.args.boxes.now)) c.args.anchors.now (rw (ex, ey) at c.in_err-level.ensures))
 
 pub corridors-requires-2 : goal.corridors-requires-2
 corridors-requires-2 c =
@@ -33,4 +36,6 @@ corridors-requires-2 c =
 
 pub returns : goal.returns
 returns c =
-    answered c.args.boxes.now (xs_of (stacked c.args.boxes.now)) (ys_of (stacked c.args.boxes.now)) c.in_ok-level.level c.args.anchors.now c.corridors.new.anchors c.corridors.new.rows (rw (c.edges-nx.ensures.axis_value, c.edges-ny.ensures.axis_value) at c.in_ok-level.ensures) (omega (arith, c.corridors.auto.anchors, c.requires.room)) c.corridors-2.result c.corridors-2.new.anchors c.corridors-2.new.rows (omega (arith, c.corridors-2.auto.anchors, c.corridors.auto.anchors, c.requires.room)) (rw (c.edges-nx.ensures.axis_value, c.edges-ny.ensures.axis_value) at c.corridors-2.ensures)
+    let ex : ups (take c.edges-nx.result c.edges-nx.new.axis) ≡ xs_of (stacked c.args.boxes.now) = lent-edges _ _ _ _ _ c.edges-nx.ensures.axis_value in
+    let ey : ups (take c.edges-ny.result c.edges-ny.new.axis) ≡ ys_of (stacked c.args.boxes.now) = lent-edges _ _ _ _ _ c.edges-ny.ensures.axis_value in
+    answered c.args.boxes.now (xs_of (stacked c.args.boxes.now)) (ys_of (stacked c.args.boxes.now)) c.in_ok-level.level c.args.anchors.now c.corridors.new.anchors c.corridors.new.rows (rw (ex, ey) at c.in_ok-level.ensures) (omega (arith, c.corridors.auto.anchors, c.requires.room)) c.corridors-2.result c.corridors-2.new.anchors c.corridors-2.new.rows (omega (arith, c.corridors-2.auto.anchors, c.corridors.auto.anchors, c.requires.room)) (rw (ex, ey) at c.corridors-2.ensures)
