@@ -1,6 +1,6 @@
 -- Rows, then columns.
-use Rattle.std.proofs.Common.{◌≡◌, refl, sym, ap, ◌∙◌, cond, ◌<◌, ◌≤◌, ℕ, zero, suc, ◌+◌, ◌-◌, ◌/◌, ◌%◌, List, [], ◌∷◌, ◌++◌, length, get_or, take, replicate, Option, None, Some, arith, add-one}
-use Rattle.std.proofs.lemmas.List.{length-append, length-map, length-take-le, append_assoc, append-nil, replicate_more, replicate-append-replicate}
+use Rattle.std.proofs.Common.{◌≡◌, refl, sym, ap, ◌∙◌, cond, ◌<◌, ◌≤◌, ℕ, zero, suc, ◌+◌, ◌-◌, ◌/◌, ◌%◌, List, [], ◌∷◌, ◌++◌, length, get_or, take, drop, replicate, Option, None, Some, arith, add-one}
+use Rattle.std.proofs.lemmas.List.{length-append, length-map, length-take-le, append_assoc, append-nil, replicate_more, replicate-append-replicate, drop-append-le, take-append-drop}
 use borrow.Author.Tests.{lt-ltb, le-ltb}
 use lib.Dec.{ltb}
 use lib.IntN.{ℤ}
@@ -17,11 +17,11 @@ use Rattle.corridors.specs.declared.row.Row.{Row}
 use Rattle.corridors.specs.Sizes as Sizes
 use Rattle.corridors.specs.Sizes.{SPAN, ANCHORS, NONE}
 use Rattle.corridors.specs.Grid.{Boxes, stacked}
-use Rattle.corridors.specs.Merge.{Taken, Plan, yield, corridor, fold, row_corridors, corridors, crossed, implicit, turned, directions}
-use Rattle.corridors.specs.Answer.{Inside, Given, Answered}
+use Rattle.corridors.specs.Merge.{Taken, Plan, Anchors, yield, corridor, fold, row_corridors, corridors, crossed, implicit, turned, directions}
+use Rattle.corridors.specs.Answer.{Inside, Given, Answered, Kept}
 use Rattle.corridors.specs.Lent.{Put, Laid}
 use Rattle.corridors.proofs.Folds.{fold-grows}
-use Rattle.corridors.proofs.Laying.{row-grows}
+use Rattle.corridors.proofs.Laying.{row-grows, drop-later}
 
 -- as many across as along
 record Level (f : ℕ → Plan → Plan) : Type 0 where
@@ -129,6 +129,11 @@ module _ (bs : List PaddedBox) (xs ys : List ℕ) (r : ℕ) (s s1 : List Anchor)
   answered None s2 rows2 h l = second-full l
   answered (Some k) s2 rows2 h l = given k s2 rows2 h l
 
+  pub rest-kept : (o : Option ℕ) (s2 : List Anchor) (rows2 : List Row) (g : Plan) → Laid Y r o s1 s2 rows2 g → Kept o s s2
+  rest-kept None s2 rows2 g l k e = cc
+  rest-kept (Some r2) s2 rows2 g l k e =
+      let z : r2 ≡ k = cc in rw z at (l.rest ∙ drop-later s1 s r r2 l.least p.rest)
+
 pub answered-full : (bs : List PaddedBox) (xs ys : List ℕ) (s : List Anchor) → ANCHORS < length (corridors (stacked bs) xs ys [] []).along → Answered None s (implicit (stacked bs) (turned (stacked bs)) xs ys)
 answered-full bs xs ys s l = first-full (stacked bs) (turned (stacked bs)) xs ys l
 
@@ -144,3 +149,14 @@ module _ (a b : List ℕ) (n k : ℕ) (l : List ℤ) (e : take k (ups l) ≡ edg
 
   pub lent-inside : Inside n a → Inside n b → Inside (length (take k l)) (ups (take k l))
   lent-inside ia ib = rw length-ups at (axis-inside a b n (ups (take k l)) lent-edges ia ib)
+
+-- ---- the part that is handed on
+
+-- the first ANCHORS of s became t
+pub part-kept : (o : Option ℕ) (s t : List Anchor) (a : Anchors) → ANCHORS ≤ length s → length t ≡ length (take ANCHORS s) → Answered o t a → Kept o (take ANCHORS s) t → Kept o s (t ++ drop ANCHORS s)
+part-kept None s t a h n w f k e = cc
+part-kept (Some r) s t a h n w f k e =
+    let z : r ≡ k = cc in
+    let m : length (take ANCHORS s) ≡ ANCHORS = length-take-le ANCHORS s h in
+    let b : k ≤ ANCHORS = omega (arith, w.few) in
+    drop-append-le k t (drop ANCHORS s) (omega arith) ∙ ap (λ (l : List Anchor). l ++ drop ANCHORS s) (f k e) ∙ sym (drop-append-le k (take ANCHORS s) (drop ANCHORS s) (omega arith)) ∙ ap (drop k) (take-append-drop ANCHORS s)

@@ -1,6 +1,6 @@
 -- The anchors of a run, of a row's runs, and of all rows.
-use Rattle.std.proofs.Common.{◌≡◌, refl, sym, ◌∙◌, Bool, true, false, cond, ◌<◌, ◌≤◌, ℕ, zero, suc, ◌+◌, ◌-◌, ◌/◌, ◌%◌, List, [], ◌∷◌, ◌++◌, length, get_or, take, set, replicate, arith}
-use Rattle.std.proofs.lemmas.List.{length-append, length-map, length-take-le, map-append, append-nil, append_assoc, replicate-append-replicate, get_or-set_other, get_or_past}
+use Rattle.std.proofs.Common.{◌≡◌, refl, sym, ap, ◌∙◌, Bool, true, false, cond, ◌<◌, ◌≤◌, ℕ, zero, suc, ◌+◌, ◌-◌, ◌/◌, ◌%◌, List, [], ◌∷◌, ◌++◌, length, get_or, take, drop, set, replicate, arith}
+use Rattle.std.proofs.lemmas.List.{length-append, length-map, length-take-le, map-append, append-nil, append_assoc, replicate-append-replicate, get_or-set_other, get_or_past, drop-drop}
 use borrow.Author.Tests.{ltb-true, ltb-false}
 use lib.Dec.{ltb}
 use lib.IntN.{ℤ}
@@ -77,7 +77,7 @@ module _ (a : Axis) (xs ys : List ℕ) (n i j top : ℕ) (rows rows' : List Row)
   pub corridor-laid : (r : ℕ) → Emit a c r s s' (get_or xs v.start 0 + 1) (get_or xs v.end 0 - 1) (middle (get_or ys i 0) (get_or ys top 0)) → Put a c r s s' rows' (corridor xs ys n i j (plan a rows (take c s)))
   corridor-laid r m =
       let e : r - c ≡ 2 = omega (arith, m.count) in
-      record { least = omega (arith, m.count); most = m.most; same = laid (take r s') m.two; marks = rw (e, m.two) (two-directed _ _ _ a (take c s)) }
+      record { least = omega (arith, m.count); most = m.most; same = laid (take r s') m.two; marks = rw (e, m.two) (two-directed _ _ _ a (take c s)); rest = m.rest }
 
 pub corridor-full : (a : Axis) (xs ys : List ℕ) (n i j c : ℕ) (rows : List Row) (s : List Anchor) → c ≤ length s → ANCHORS < c + 2 → ANCHORS < length (corridor xs ys n i j (plan a rows (take c s))).along
 unfolding corridor yield
@@ -110,6 +110,13 @@ pub row-grows : (xs ys : List ℕ) (n : ℕ) → Grows (row_corridors xs ys n)
 unfolding row_corridors
 row-grows xs ys n = record { grows = λ i p. fold-grows (corridor xs ys n i) 0 (length (get_or p.rows i [])) p (corridor-grows xs ys n i) }
 
+-- ---- what stands behind
+
+pub drop-later : (s t : List Anchor) (m r : ℕ) → m ≤ r → drop m s ≡ drop m t → drop r s ≡ drop r t
+drop-later s t m r h e =
+    let q : m + (r - m) ≡ r = omega arith in
+    rw q at (sym (drop-drop (r - m) m s) ∙ ap (drop (r - m)) e ∙ drop-drop (r - m) m t)
+
 -- ---- turn by turn: behind the first c anchors of s₀ others were laid, up to `made` of s, and the turns from k on are left
 
 pub record Going (a : Axis) (f : ℕ → Plan → Plan) (n c : ℕ) (rows₀ rows : List Row) (s₀ s : List Anchor) (made k : ℕ) : Type 0 where
@@ -117,22 +124,23 @@ pub record Going (a : Axis) (f : ℕ → Plan → Plan) (n c : ℕ) (rows₀ row
   pub least : c ≤ made
   pub most : made ≤ ANCHORS
   pub marks : Directed a (made - c) (take c s₀) (take made s)
+  pub rest : drop made s ≡ drop made s₀
 
 pub going-begin : (a : Axis) (f : ℕ → Plan → Plan) (n c : ℕ) (rows : List Row) (s : List Anchor) → c ≤ ANCHORS → Going a f n c rows rows s s c 0
 going-begin a f n c rows s h =
     let e : c - c ≡ 0 = omega arith in
-    record { folds = fold-begin f n _; least = omega arith; most = h; marks = rw e (directed-none a (take c s)) }
+    record { folds = fold-begin f n _; least = omega arith; most = h; marks = rw e (directed-none a (take c s)); rest = refl }
 
 module _ {a : Axis} {f : ℕ → Plan → Plan} {n c : ℕ} {rows₀ rows : List Row} {s₀ s : List Anchor} {made k : ℕ} (g : Going a f n c rows₀ rows s₀ s made k) where
   pub going-on : k < n → (r : ℕ) (s' : List Anchor) (rows' : List Row) → Put a made r s s' rows' (f k (plan a rows (take made s))) → Going a f n c rows₀ rows' s₀ s' r (k + 1)
   going-on h r s' rows' p =
-      record { folds = fold_on g.folds h p.same; least = omega (arith, p.least, g.least); most = p.most; marks = directed-on a (made - c) (r - made) (r - c) _ _ _ (omega (arith, p.least, g.least)) g.marks p.marks }
+      record { folds = fold_on g.folds h p.same; least = omega (arith, p.least, g.least); most = p.most; marks = directed-on a (made - c) (r - made) (r - c) _ _ _ (omega (arith, p.least, g.least)) g.marks p.marks; rest = p.rest ∙ drop-later s s₀ made r p.least g.rest }
 
   pub going-full : Grows f → k < n → ANCHORS < length (f k (plan a rows (take made s))).along → ANCHORS < length (fold f 0 n (plan a rows₀ (take c s₀))).along
   going-full w h l = fold-full g.folds ANCHORS w h l
 
   pub going-end : n ≤ k → Put a c made s₀ s rows (fold f 0 n (plan a rows₀ (take c s₀)))
-  going-end h = record { least = g.least; most = g.most; same = fold_end g.folds h; marks = g.marks }
+  going-end h = record { least = g.least; most = g.most; same = fold_end g.folds h; marks = g.marks; rest = g.rest }
 
 -- ---- a row's runs as a fold over their count
 

@@ -1,5 +1,5 @@
 -- What `generate_implicit_anchors` asks of the boxes, and what it leaves in the list of anchors.
-use Rattle.std.specs.Prelude.{◌≡◌, List, ℕ, ◌<◌, ◌≤◌, length, get_or, take, replicate, Option, None, Some}
+use Rattle.std.specs.Prelude.{◌≡◌, List, ℕ, ◌<◌, ◌≤◌, length, get_or, take, drop, replicate, Option, None, Some}
 use Rattle.fixed.specs.declared.PaddedBox.{PaddedBox}
 use Rattle.fixed.specs.declared.Anchor.{Anchor}
 use Rattle.fixed.specs.Boxes.{min_xs, min_ys, max_xs, max_ys, anchor_xs, anchor_ys, directions_of, ignored_of}
@@ -34,3 +34,7 @@ pub record Given (k : ℕ) (s : List Anchor) (a : Anchors) : Type 0 where
 abbrev pub Answered : Option ℕ → List Anchor → Anchors → Type 0
 Answered None s a = ANCHORS < length a.xs
 Answered (Some k) s a = Given k s a
+
+-- what stands behind the k anchors of an answer stays, from s to t
+abbrev pub Kept : Option ℕ → List Anchor → List Anchor → Type 0
+Kept o s t = (k : ℕ) → o ≡ Some k → drop k t ≡ drop k s

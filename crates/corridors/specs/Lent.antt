@@ -1,5 +1,5 @@
 -- How the rows and the anchors are lists of numbers, and what the functions below `generate_implicit_anchors` do to them.
-use Rattle.std.specs.Prelude.{◌≡◌, Bool, false, cond, ◌||◌, ◌&&◌, List, [], ◌∷◌, ◌++◌, ℕ, zero, suc, ◌+◌, ◌-◌, ◌<◌, ◌≤◌, eqb, ltb, leb, length, get_or, take, map, replicate, Option, None, Some}
+use Rattle.std.specs.Prelude.{◌≡◌, Bool, false, cond, ◌||◌, ◌&&◌, List, [], ◌∷◌, ◌++◌, ℕ, zero, suc, ◌+◌, ◌-◌, ◌<◌, ◌≤◌, eqb, ltb, leb, length, get_or, take, drop, map, replicate, Option, None, Some}
 use Rattle.fixed.specs.declared.Axis.{Axis}
 use Rattle.fixed.specs.declared.Axis.TheVariants.{X, Y}
 use Rattle.fixed.specs.declared.Anchor.{Anchor}
@@ -73,22 +73,24 @@ pub record Directed (along : Axis) (n : ℕ) (s t : List Anchor) : Type 0 where
   pub directed : directions_of t ≡ directions_of s ++ replicate n (way along)
   pub free : ignored_of t ≡ ignored_of s ++ replicate n NONE
 
--- behind the first c anchors of s two others were laid along an axis, at u and v along and at w across, if there is room
+-- behind the first c anchors of s two others were laid along an axis, at u and v along and at w across, if there is room; what stands behind them stays
 pub record Emit (along : Axis) (c r : ℕ) (s t : List Anchor) (u v w : ℕ) : Type 0 where
   pub count : r ≡ c + 2
   pub most : r ≤ ANCHORS
   pub two : take r t ≡ take c s ++ (anchor along u w ∷ anchor along v w ∷ [])
+  pub rest : drop r t ≡ drop r s
 
 abbrev pub Emitted : Axis → ℕ → Option ℕ → List Anchor → List Anchor → ℕ → ℕ → ℕ → Type 0
 Emitted along c None s t u v w = ANCHORS < c + 2
 Emitted along c (Some r) s t u v w = Emit along c r s t u v w
 
--- behind the first c anchors of s others were laid: the first r of t, and the rows, are the plan g
+-- behind the first c anchors of s others were laid: the first r of t, and the rows, are the plan g; what stands behind them stays
 pub record Put (along : Axis) (c r : ℕ) (s t : List Anchor) (rows : List Row) (g : Plan) : Type 0 where
   pub least : c ≤ r
   pub most : r ≤ ANCHORS
   pub same : plan along rows (take r t) ≡ g
   pub marks : Directed along (r - c) (take c s) (take r t)
+  pub rest : drop r t ≡ drop r s
 
 -- a step that may find no room: there is none if the plan has more than ANCHORS anchors
 abbrev pub Laid : Axis → ℕ → Option ℕ → List Anchor → List Anchor → List Row → Plan → Type 0

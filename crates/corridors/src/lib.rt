@@ -9,7 +9,7 @@ ghost use Rattle.fixed.specs.Boxes.{across};
 ghost use Rattle.corridors.specs.Sizes.{EDGES, ANCHORS};
 ghost use Rattle.corridors.specs.Grid.{seen, stacked, all_runs};
 ghost use Rattle.corridors.specs.Merge.{take_out, fold, corridor, row_corridors, corridors, anchors as anchors_of};
-ghost use Rattle.corridors.specs.Answer.{Inside, Bounded, Answered};
+ghost use Rattle.corridors.specs.Answer.{Inside, Bounded, Answered, Kept};
 ghost use Rattle.corridors.specs.Lent.{run, table, taken, MarkedSpan, MarkedRow, anchor, alongs, plan, Emitted, Laid};
 
 mod row;
@@ -195,7 +195,8 @@ fn implicit_anchors(boxes: &[PaddedBox], anchors: &mut [Anchor]) -> Option<usize
     requires boxes_bound { length boxes.now ≤ BOXES }
     requires room { ANCHORS ≤ length anchors.old }
     requires edges_bound { Bounded boxes.now }
-    ensures { Answered result anchors.new (anchors_of (stacked boxes.now)) }
+    ensures value { Answered result anchors.new (anchors_of (stacked boxes.now)) }
+    ensures rest { Kept result anchors.old anchors.new }
 {
     let mut xs = [0i32; EDGES];
     let mut ys = [0i32; EDGES];
@@ -225,6 +226,7 @@ pub fn generate_implicit_anchors(boxes: &[PaddedBox], anchors: &mut [Anchor]) ->
     requires room { ANCHORS ≤ length anchors.old }
     requires edges_bound { Bounded boxes.now }
     ensures value { Answered result anchors.new (anchors_of (stacked boxes.now)) }
+    ensures rest { Kept result anchors.old anchors.new }
     ensures behind { drop ANCHORS anchors.new ≡ drop ANCHORS anchors.old }
 {
     implicit_anchors(boxes, &mut anchors[..ANCHORS])
