@@ -287,13 +287,15 @@ impl Search<'_> {
         ensures kept { Kept self.old self.new }
     {
         self.begin(start);
-        while let Some(u) = self.pop() {
+        let mut found = None;
+        'outer: while let Some(u) = self.pop() {
             if self.cell(MARK, u) != 0 {
-                return Some(u);
+                found = Some(u);
+                break 'outer;
             }
             self.expand(u);
         }
-        None
+        found
     }
 }
 
