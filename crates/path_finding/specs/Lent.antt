@@ -37,12 +37,14 @@ ends_x e = ups e.x.now
 abbrev pub ends_y : Ends → List ℕ
 ends_y e = ups e.y.now
 
--- the same graph, in the same lent lists; the list is as long as before
+-- the same graph, in the same lent lists, as long as before
 pub record Kept (f g : Finder) : Type 0 where
   pub same_graph : g.graph ≡ f.graph
   pub same_cells : g.cells.ghost_name ≡ f.cells.ghost_name
   pub same_tree : g.tree.ghost_name ≡ f.tree.ghost_name
   pub same_list : g.list.ghost_name ≡ f.list.ghost_name
+  pub long_cells : length g.cells.now ≡ length f.cells.now
+  pub long_tree : length g.tree.now ≡ length f.tree.now
   pub long_list : length g.list.now ≡ length f.list.now
 
 -- the line l of a graph is written
