@@ -1,6 +1,6 @@
 -- What the functions do to the lent graph, and the loop of pruning.
 --     back-none, back-aimed, back-left, back-all    the loop over a node's neighbours
---     moved_is, shrunk, drop-last, drop-inner, drop-count    a node that goes
+--     links-moved, moved_is, shrunk, drop-last, drop-inner, drop-count    a node that goes
 --     goes_at, prune-stays, prune-goes    a node asked
 --     Pruning, prune-on, prune-done    all nodes asked
 --     prune-less    pruning makes no node
@@ -12,14 +12,13 @@ use native.Mathlib.Numerals.{add-one}
 use native.Mathlib.Omega.{arith}
 use borrow.Author.Tests.{eq-eqb, ne_eqb, ltb-true, lt-ltb, le-ltb}
 use lib.Dec.{eqb, ltb, leb}
-use lib.ListN.{get_or, take, set}
-use lib.Seq.{get_or-take, take-take}
+use lib.ListN.{get_or, take}
+use lib.Seq.{take-take}
 use Rattle.fixed.proofs.Bools.{and_left, and_right}
 use Rattle.nodes.specs.declared.Graph.{Graph as Store}
-use Rattle.nodes.specs.Graph.{Graph, onward, opposite, aim, link}
+use Rattle.nodes.specs.Graph.{Graph, X, Y, onward, mark_of, opposite, stand, aim, mark_as, link}
 use Rattle.nodes.specs.Columns.{links_of, graph_of}
-use Rattle.nodes.proofs.Nodes.{take-set, cond_ind}
-use Rattle.nodes.proofs.Columns.{link_is}
+use Rattle.nodes.proofs.Nodes.{cond_ind}
 use Rattle.prune.specs.Prune.{moved, only, pick, straight, with_links, moved_links, back, backs, relink, shrink, drop_node, join, prune_by, prune_at, prune_from, prune}
 
 -- ---- the neighbours' links
@@ -57,42 +56,23 @@ back-all p = p.same
 
 -- ---- the last node takes the index of one that goes
 
-links-put : (ls : List (List ℕ)) (i : ℕ) (l : List ℕ) → links_of (set ls i l) ≡ set (set (set (set (links_of ls) (i * 4) (get_or l 0 0)) (i * 4 + 1) (get_or l 1 0)) (i * 4 + 2) (get_or l 2 0)) (i * 4 + 3) (get_or l 3 0)
-unfolding links_of
-links-put [] i l = refl
-links-put (a ∷ ls) zero l = refl
-links-put (a ∷ ls) (suc i) l =
-    let e : suc i * 4 ≡ suc (suc (suc (suc (i * 4)))) = omega arith in
-    let e1 : suc i * 4 + 1 ≡ suc (suc (suc (suc (i * 4 + 1)))) = omega arith in
-    let e2 : suc i * 4 + 2 ≡ suc (suc (suc (suc (i * 4 + 2)))) = omega arith in
-    let e3 : suc i * 4 + 3 ≡ suc (suc (suc (suc (i * 4 + 3)))) = omega arith in
-    rw (e1, e2, e3, e, links-put ls i l)
-
 links-take : (k : ℕ) (ls : List (List ℕ)) → take (k * 4) (links_of ls) ≡ links_of (take k ls)
 unfolding links_of
 links-take zero ls = refl
 links-take (suc k) [] = let e : suc k * 4 ≡ suc (suc (suc (suc (k * 4)))) = omega arith in rw e
 links-take (suc k) (a ∷ ls) = let e : suc k * 4 ≡ suc (suc (suc (suc (k * 4)))) = omega arith in rw (e, links-take k ls)
 
--- what a node's links are in the lent list
-abbrev held : Store → ℕ → List ℕ
-held s j = get_or s.links j []
+pub links-moved : (g g1 g2 g3 g4 : Graph) (i j a b c d : ℕ) → a ≡ onward g 0 j → b ≡ onward g 1 j → c ≡ onward g 2 j → d ≡ onward g 3 j
+    → g1 ≡ aim g (i * 4 + 0) a → g2 ≡ aim g1 (i * 4 + 1) b → g3 ≡ aim g2 (i * 4 + 2) c → g4 ≡ aim g3 (i * 4 + 3) d → g4 ≡ with_links g (moved_links g.links i j)
+unfolding aim with_links moved_links
+links-moved g g1 g2 g3 g4 i j a b c d ea eb ec ed q1 q2 q3 q4 =
+    let zi : i * 4 + 0 ≡ i * 4 = omega arith in
+    let zj : j * 4 + 0 ≡ j * 4 = omega arith in
+    rw (q4, q3, q2, q1, ea, eb, ec, ed, zi, zj)
 
-module _ (s : Store) (i j : ℕ) (h : j < s.count) where
-  word : (k : ℕ) → k < 4 → get_or (held s j) k 0 ≡ get_or (links_of (take s.count s.links)) (j * 4 + k) 0
-  word k b = sym (link_is s.count s.links j k h b)
-
-  links-moved : links_of (take s.count (set s.links i (held s j))) ≡ moved_links (links_of (take s.count s.links)) i j
-  unfolding moved_links
-  links-moved =
-      let e : j * 4 + 0 ≡ j * 4 = omega arith in
-      rw (take-set s.count s.links i (held s j), links-put (take s.count s.links) i (held s j), word 0 (omega arith), word 1 (omega arith), word 2 (omega arith), word 3 (omega arith), e)
-
-  pub moved_is : record { count = s.count; xs = take s.count (set s.xs i (get_or s.xs j 0)); ys = take s.count (set s.ys i (get_or s.ys j 0)); links = links_of (take s.count (set s.links i (held s j))); marks = take s.count (set s.marks i (get_or s.marks j 0)) }
-      ≡ moved (graph_of s) i j
-  unfolding moved
-  moved_is =
-      rw (links-moved, take-set s.count s.xs i (get_or s.xs j 0), take-set s.count s.ys i (get_or s.ys j 0), take-set s.count s.marks i (get_or s.marks j 0), get_or-take s.count s.xs j 0 h, get_or-take s.count s.ys j 0 h, get_or-take s.count s.marks j 0 h)
+pub moved_is : (g g1 g2 g3 : Graph) (i j x y m : ℕ) → x ≡ X g j → y ≡ Y g j → g1 ≡ stand g i x y → g2 ≡ with_links g1 (moved_links g1.links i j) → m ≡ mark_of g2 j → g3 ≡ mark_as g2 i m → g3 ≡ moved g i j
+unfolding stand mark_as with_links moved
+moved_is g g1 g2 g3 i j x y m ex ey q1 q2 em q3 = rw (q3, em, q2, q1, ex, ey)
 
 pub shrunk : (s : Store) (n : ℕ) → s.count ≡ n → record { count = n - 1; xs = take (n - 1) s.xs; ys = take (n - 1) s.ys; links = links_of (take (n - 1) s.links); marks = take (n - 1) s.marks } ≡ shrink (graph_of s)
 unfolding shrink

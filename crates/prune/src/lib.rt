@@ -2,9 +2,10 @@
 #![tactic(auto)]
 
 ghost use Rattle.std.specs.Prelude.{◌≡◌, ◌+◌, ◌<◌, ◌≤◌};
+ghost use Rattle.nodes.specs.Graph.{NODES};
 ghost use Rattle.nodes.specs.Columns.{graph_of};
 ghost use Rattle.nodes.specs.Lent.{Below};
-ghost use Rattle.prune.specs.Prune.{only, straight, with_links, backs, drop_node, prune_at, prune};
+ghost use Rattle.prune.specs.Prune.{only, straight, with_links, moved_links, moved, backs, drop_node, prune_at, prune};
 
 use nodes::Graph;
 
@@ -45,9 +46,34 @@ fn backs(graph: &mut Graph, i: usize)
 {
     for d in 0..4 {
         if let Some(v) = graph.neighbour(i, d) {
-            graph.aim(v, nodes::opposite(d), i as u32);
+            graph.put_link(v, nodes::opposite(d), i as u32);
         }
     }
+}
+
+// The links of the node j go to the node i.
+fn move_links(graph: &mut Graph, i: usize, j: usize)
+    requires { (i < NODES) × (j < graph.old.count) }
+    ensures value { graph_of graph.new ≡ with_links (graph_of graph.old) (moved_links (graph_of graph.old).links i j) }
+    ensures kept { graph.new.count ≡ graph.old.count }
+{
+    let (a, b) = (graph.link(j, 0), graph.link(j, 1));
+    let (c, d) = (graph.link(j, 2), graph.link(j, 3));
+    graph.put_link(i, 0, a);
+    graph.put_link(i, 1, b);
+    graph.put_link(i, 2, c);
+    graph.put_link(i, 3, d);
+}
+
+// The node j goes to the index i.
+fn move_node(graph: &mut Graph, i: usize, j: usize)
+    requires { (i < NODES) × (j < graph.old.count) }
+    ensures value { graph_of graph.new ≡ moved (graph_of graph.old) i j }
+    ensures kept { graph.new.count ≡ graph.old.count }
+{
+    graph.put_place(i, graph.x(j), graph.y(j));
+    move_links(graph, i, j);
+    graph.put_mark(i, graph.mark(j));
 }
 
 // The node i goes, and the last one takes its index.
@@ -57,10 +83,7 @@ fn drop_node(graph: &mut Graph, i: usize)
 {
     let last = graph.count - 1;
     if i != last {
-        graph.xs[i] = graph.xs[last];
-        graph.ys[i] = graph.ys[last];
-        graph.links[i] = graph.links[last];
-        graph.marks[i] = graph.marks[last];
+        move_node(graph, i, last);
         backs(graph, i);
     }
     graph.count = last;

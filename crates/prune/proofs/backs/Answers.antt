@@ -9,7 +9,7 @@ loop-d-init c = back-none _ _
 pub loop-d-preserved : goal.loop-d-preserved
 loop-d-preserved c =
     elim c.match-neighbour.branch [
-      | in-Some w ↦ rw w.graph-is (back-aimed c.loop-d.invariant _ _ w.in-Some.ensures (rw w.opposite.ensures at w.aim.ensures.value))
+      | in-Some w ↦ rw w.graph-is (back-aimed c.loop-d.invariant _ _ w.in-Some.ensures (rw w.opposite.ensures at w.put_link.ensures.value))
       | in_default w ↦ rw w.graph-is (back-left c.loop-d.invariant w.in_default.ensures)
     ]
 

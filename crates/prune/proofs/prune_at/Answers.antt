@@ -9,11 +9,11 @@ link-b-requires c = let q = goes_at _ _ _ _ _ c.in-Some.ensures in (omega arith,
 pub link_both-requires : goal.link_both-requires
 link_both-requires c =
     let q = goes_at _ _ _ _ _ c.in-Some.ensures in
-    (omega arith, omega (arith, c.link-a.ensures), omega (arith, c.link-b.ensures))
+    (omega arith, omega (arith, c.link-a.ensures.value c.requires), omega (arith, c.link-b.ensures.value c.requires))
 
 pub returns-in-Some-clause-value : goal.returns-in-Some-clause-value
 returns-in-Some-clause-value c =
-    prune-goes _ _ _ _ _ _ _ c.in-Some.ensures c.link-a.ensures c.link-b.ensures c.link_both.ensures.value c.drop_node.ensures
+    prune-goes _ _ _ _ _ _ _ c.in-Some.ensures (c.link-a.ensures.value c.requires) (c.link-b.ensures.value c.requires) c.link_both.ensures.value c.drop_node.ensures
 
 pub returns-in-Some-clause-upper_bound : goal.returns-in-Some-clause-upper_bound
 returns-in-Some-clause-upper_bound c =

@@ -10,13 +10,13 @@ returns-in_err-prev-clause-built c =
 pub returns-then-link-clause-built : goal.returns-then-link-clause-built
 returns-then-link-clause-built c =
     let p = c.in_ok-prev.ensures.met in
-    walk-stopped c.loop-k.invariant.walking _ _ (omega arith) p.0 p.2 (λ q. c.if-link.true (rw c.index.ensures at c.link.ensures ∙ q))
+    walk-stopped c.loop-k.invariant.walking _ _ (omega arith) p.0 p.2 (λ q. c.if-link.true (rw c.index.ensures at c.link.ensures.value p.1 ∙ q))
 
 pub loop-k-preserved : goal.loop-k-preserved
 loop-k-preserved c =
     let p = c.in_ok-prev.ensures.met in
     record {
-      walking = walk-on c.loop-k.invariant.walking _ _ (omega arith) p.0 p.2 p.1 (sym (rw c.index.ensures at c.link.ensures) ∙ c.if-link.false);
+      walking = walk-on c.loop-k.invariant.walking _ _ (omega arith) p.0 p.2 p.1 (sym (rw c.index.ensures at c.link.ensures.value p.1) ∙ c.if-link.false);
       kept = kept-on c.loop-k.invariant.kept c.in_ok-prev.ensures.kept;
     }
 
