@@ -1,15 +1,17 @@
 // A search on a page.
 #![tactic(auto)]
 
-ghost use Rattle.std.specs.Prelude.{◌*◌, ◌≤◌, ◌<◌, length};
+ghost use Rattle.std.specs.Prelude.{◌≡◌, ◌*◌, ◌≤◌, ◌<◌, length, IfSome, IfNone};
 ghost use Rattle.queue.specs.Columns.{WIDTH};
+ghost use Rattle.book.specs.Refusals.{number_of};
 ghost use Rattle.nodes.specs.Graph.{NODES};
 ghost use Rattle.nodes.specs.Columns.{graph_of};
 ghost use Rattle.anchors.specs.Lent.{records_in};
 ghost use Rattle.astar.specs.Reached.{Ready};
-ghost use Rattle.path_finding.specs.Lent.{KeptOutput};
+ghost use Rattle.path_finding.specs.Places.{nodes_in};
+ghost use Rattle.path_finding.specs.Lent.{Cleared, KeptOutput};
 ghost use Rattle.search.specs.Searched.{ENDS, SearchedIn};
-ghost use Rattle.page_search.specs.Page.{PageSearchedIn};
+ghost use Rattle.page_search.specs.Page.{CROWDED, PageSearchedIn};
 ghost use Rattle.page_search.specs.Exists.{Sound};
 
 use anchors::Records;
@@ -62,6 +64,27 @@ fn find_on(graph: &Graph, x: u32, y: u32, ends: Ends, output: &mut Output) -> Re
     )
 }
 
+// The search on a page's graph, none where the page is crowded: how many nodes the line has. There are zeros alone if there is none.
+pub fn search_on(
+    graph: Option<&Graph>,
+    x: u32,
+    y: u32,
+    ends: Ends,
+    output: &mut Output,
+) -> Result<usize, Refusal>
+    requires ready { IfSome graph (λ g. 0 < g.now.count → Ready (graph_of g.now)) }
+    requires few { length ends.x.now ≤ ENDS }
+    ensures crowded { IfNone graph.entry ((number_of result ≡ CROWDED) × (nodes_in result ≡ 0) × Cleared output.old output.new) }
+    ensures searched { IfSome graph.entry (λ g. SearchedIn (graph_of g.now) x y ends.entry result output.new) }
+    ensures kept { KeptOutput output.old output.new }
+{
+    let Some(graph) = graph else {
+        output.clear();
+        return Err(Refusal::Crowded);
+    };
+    find_on(graph, x, y, ends, output)
+}
+
 // The search on the page of the records, on its pruned graph or not: how many nodes the line has. There are zeros alone if there is none.
 pub fn search_page(
     records: Records,
@@ -78,8 +101,7 @@ pub fn search_page(
 {
     let mut graph = Graph::new();
     let Some(()) = page_graph::graph_of(records, pruned, &mut graph) else {
-        output.clear();
-        return Err(Refusal::Crowded);
+        return search_on(None, x, y, ends, output);
     };
-    find_on(&graph, x, y, ends, output)
+    search_on(Some(&graph), x, y, ends, output)
 }
