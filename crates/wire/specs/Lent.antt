@@ -28,6 +28,7 @@ pub record KeptWires (v w : Lists) : Type 0 where
   pub same_x : w.x.ghost_name ≡ v.x.ghost_name
   pub same_y : w.y.ghost_name ≡ v.y.ghost_name
   pub same_letters : w.letters.ghost_name ≡ v.letters.ghost_name
+  pub same_ends : w.ends.ghost_name ≡ v.ends.ghost_name
   pub long_ends : length w.ends.now ≡ length v.ends.now
 
 -- ---- what a fallback adds
