@@ -29,7 +29,6 @@ use nodes::Graph;
 use path_finding::{CELLS, Finder, SMALL, SMALL_CELLS, SMALL_TREE, TREE};
 use routing::Joins;
 pub use types::Sheet;
-use vertex::JunctionKind;
 use wire::{End, Place, Wires};
 
 const ORIGIN: Place = Place { x: 0, y: 0 };
@@ -38,7 +37,7 @@ const ORIGIN: Place = Place { x: 0, y: 0 };
 const NO_END: End = End {
     at: ORIGIN,
     vertex: 0,
-    kind: JunctionKind::Corner,
+    letter: 0,
 };
 
 // How many vertices and junctions a page has.

@@ -1,7 +1,5 @@
 -- The lent rows of junctions, and the end that a branch joins.
-use Rattle.std.specs.Prelude.{◌≡◌, ℕ, Some}
-use Rattle.vertex.specs.Kinds.{letter_of}
-use Rattle.vertex.specs.declared.VertexKind.TheVariants.{WireEnd}
+use Rattle.std.specs.Prelude.{◌≡◌, ℕ}
 use Rattle.wire.specs.Ends.{end_x_at, end_y_at, end_vertex, end_kind}
 use Rattle.wire.specs.Lines.{Line}
 use Rattle.wire.specs.Wires.{Ends}
@@ -18,4 +16,4 @@ pub record JoinedEnd (L : Line) (sx sy : ℕ) (E : Ends) (r : End) : Type 0 wher
   pub x : r.at.x ≡ end_x_at E.rows (joined_end L sx sy E)
   pub y : r.at.y ≡ end_y_at E.rows (joined_end L sx sy E)
   pub vertex : r.vertex ≡ end_vertex E.rows (joined_end L sx sy E)
-  pub kind : letter_of (WireEnd (Some r.kind)) ≡ end_kind E.rows (joined_end L sx sy E)
+  pub letter : r.letter ≡ end_kind E.rows (joined_end L sx sy E)

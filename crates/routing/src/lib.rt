@@ -3,19 +3,17 @@
 
 mod types;
 
-ghost use Rattle.std.specs.Prelude.{◌≡◌, ◌+◌, ◌*◌, ◌/◌, ◌%◌, ◌<◌, ◌≤◌, cond, eqb, Some, length, get_or};
+ghost use Rattle.std.specs.Prelude.{◌≡◌, ◌+◌, ◌*◌, ◌/◌, ◌%◌, ◌<◌, ◌≤◌, cond, eqb, length, get_or};
 ghost use Rattle.book.specs.Refusals.{number_of};
 ghost use Rattle.fixed.specs.Steps.{gap};
 ghost use Rattle.routing.specs.Branches.{tried, fits as fits_in, line_wire, fallback_wire, route_wire, route_branch, put_junction, join_branch};
 ghost use Rattle.routing.specs.Lent.{JoinedEnd, KeptRows};
 ghost use Rattle.routing.specs.Roots.{slant_of, root_pair};
-ghost use Rattle.vertex.specs.Kinds.{letter_of};
-ghost use Rattle.vertex.specs.declared.VertexKind.TheVariants.{WireEnd};
 ghost use Rattle.wire.specs.Lent.{line_in, wires_of, xs_of, ys_of, KeptWires};
 
 use book::Refusal;
 pub use types::Joins;
-use vertex::{JunctionKind, VertexKind};
+use vertex::JunctionKind;
 use wire::{End, Fallback, Line, Place, Wires};
 
 // The size of |dx| - |dy| of the pair p of the places.
@@ -122,19 +120,16 @@ fn joined_end(wires: &Wires, line: Line, start: Place) -> End
 
 impl Joins<'_> {
     // Adds a junction.
-    fn push(&mut self, holder: u32, joiner: u32, kind: JunctionKind)
+    fn push(&mut self, holder: u32, joiner: u32, letter: u32)
         requires { self.old.j < 256 }
-        ensures value { self.new.rows.now ≡ put_junction self.old.rows.now self.old.j holder joiner (letter_of (WireEnd (Some kind))) }
+        ensures value { self.new.rows.now ≡ put_junction self.old.rows.now self.old.j holder joiner letter }
         ensures count { self.new.j ≡ self.old.j + 1 }
         ensures kept { KeptRows self.old self.new }
     {
-        let letter = u8::from(VertexKind::WireEnd {
-            junction: Some(kind),
-        });
         let at = 3 * self.j;
         self.rows[at] = holder;
         self.rows[at + 1] = joiner;
-        self.rows[at + 2] = letter as u32;
+        self.rows[at + 2] = letter;
         self.j += 1;
     }
 }
@@ -160,7 +155,7 @@ pub fn route_branch(
         end: end.at,
         along,
     };
-    route_wire(wires, line, way, false, Some(end.kind))?;
-    joins.push(end.vertex, (wires.n - 1) as u32, end.kind);
+    route_wire(wires, line, way, false, Some(end.kind()))?;
+    joins.push(end.vertex, (wires.n - 1) as u32, end.letter);
     Ok(())
 }

@@ -9,9 +9,6 @@ use native.Mathlib.Omega.{arith}
 use lib.Dec.{eqb}
 use lib.ListN.{length, get_or, set}
 use Rattle.fixed.specs.Steps.{manhattan}
-use Rattle.std.specs.Prelude.{Some}
-use Rattle.vertex.specs.Kinds.{letter_of}
-use Rattle.vertex.specs.declared.VertexKind.TheVariants.{WireEnd}
 use Rattle.wire.specs.declared.types.End.{End}
 use Rattle.wire.specs.Ends.{put_end, end_x_at, end_y_at, end_vertex, end_kind, stands, end_distance}
 use Rattle.wire.specs.Lent.{words}
@@ -22,12 +19,12 @@ next i j = omega arith
 four : (i : ℕ) → 4 * suc i ≡ suc (suc (suc (suc (4 * i))))
 four i = omega arith
 
-pub words-set : (es : List End) (i : ℕ) (e : End) → i < length es → words (set es i e) ≡ put_end (words es) i e.at.x e.at.y e.vertex (letter_of (WireEnd (Some e.kind)))
+pub words-set : (es : List End) (i : ℕ) (e : End) → i < length es → words (set es i e) ≡ put_end (words es) i e.at.x e.at.y e.vertex e.letter
 unfolding words put_end
 words-set [] i e h = absurd (omega arith)
 words-set (f ∷ es) zero e h = refl
 words-set (f ∷ es) (suc i) e h =
-    rw (next i 1, next i 2, next i 3, four i) (ap (λ (ws : List ℕ). f.at.x ∷ f.at.y ∷ f.vertex ∷ letter_of (WireEnd (Some f.kind)) ∷ ws) (words-set es i e (omega arith)))
+    rw (next i 1, next i 2, next i 3, four i) (ap (λ (ws : List ℕ). f.at.x ∷ f.at.y ∷ f.vertex ∷ f.letter ∷ ws) (words-set es i e (omega arith)))
 
 module _ (d : End) where
   pub word-x : (es : List End) (i : ℕ) → i < length es → (get_or es i d).at.x ≡ end_x_at (words es) i
@@ -48,7 +45,7 @@ module _ (d : End) where
   word-vertex (f ∷ es) zero h = refl
   word-vertex (f ∷ es) (suc i) h = rw (next i 2) (word-vertex es i (omega arith))
 
-  pub word-kind : (es : List End) (i : ℕ) → i < length es → letter_of (WireEnd (Some (get_or es i d).kind)) ≡ end_kind (words es) i
+  pub word-kind : (es : List End) (i : ℕ) → i < length es → (get_or es i d).letter ≡ end_kind (words es) i
   unfolding words
   word-kind [] i h = absurd (omega arith)
   word-kind (f ∷ es) zero h = refl

@@ -1,9 +1,8 @@
 -- What the functions are lent, as the definitions see it: a line, and the wires of a net.
-use Rattle.std.specs.Prelude.{◌≡◌, List, [], ◌∷◌, ℕ, length, map, Bool, Some}
+use Rattle.std.specs.Prelude.{◌≡◌, List, [], ◌∷◌, ℕ, length, map, Bool}
 use Rattle.fixed.specs.Up.{ups}
 use Rattle.nodes.specs.Columns.{graph_of}
-use Rattle.vertex.specs.Kinds.{Junction, letter_of}
-use Rattle.vertex.specs.declared.VertexKind.TheVariants.{WireEnd}
+use Rattle.vertex.specs.Kinds.{Junction}
 use Rattle.wire.specs.Lines.{Line, line_of}
 use Rattle.wire.specs.Wires.{Vertices, Wires, vertices, ends, wires, corner_x, corner_y, bent, fallback_vertices, push_bend, push_fallback_wire, push_fallback}
 use Rattle.wire.specs.declared.types.End.{End}
@@ -18,7 +17,7 @@ line_in l = line_of (graph_of l.graph.now) l.path.now
 -- the rows of ends: four words an end
 unfoldable pub words : List End → List ℕ
 words [] = []
-words (e ∷ es) = e.at.x ∷ e.at.y ∷ e.vertex ∷ letter_of (WireEnd (Some e.kind)) ∷ words es
+words (e ∷ es) = e.at.x ∷ e.at.y ∷ e.vertex ∷ e.letter ∷ words es
 
 abbrev pub wires_of : Lists → Wires
 wires_of w = wires (vertices (ups w.x.now) (ups w.y.now) w.letters.now w.n) (ends (words w.ends.now) w.m)

@@ -3,8 +3,9 @@
 
 mod types;
 
-ghost use Rattle.std.specs.Prelude.{◌≡◌, ◌+◌, ◌*◌, ◌-◌, ◌<◌, ◌≤◌, cond, false, Some, length, get_or};
+ghost use Rattle.std.specs.Prelude.{◌≡◌, ◌+◌, ◌*◌, ◌-◌, ◌<◌, ◌≤◌, cond, eqb, false, Some, length, get_or};
 ghost use Rattle.vertex.specs.Kinds.{letter_of};
+ghost use Rattle.vertex.specs.Pages.{carried};
 ghost use Rattle.vertex.specs.declared.VertexKind.TheVariants.{WireEnd};
 ghost use Rattle.wire.specs.Ends.{junction_end, nearest_end};
 ghost use Rattle.wire.specs.Lines.{goes_on, kept_to};
@@ -14,6 +15,9 @@ ghost use Rattle.fixed.specs.Steps.{manhattan};
 
 pub use types::{End, Fallback, Line, Place, Wires};
 use vertex::{JunctionKind, Vertex, VertexKind};
+
+// The letter C.
+const CORNER: u32 = 67;
 
 impl Line<'_> {
     // The place of the node k.
@@ -76,10 +80,13 @@ impl Wires<'_> {
         ensures value { wires_of self.new ≡ wires (wires_of self.old).page (push_end at.x at.y v (letter_of (WireEnd (Some kind))) (wires_of self.old).net) }
         ensures kept { KeptWires self.old self.new }
     {
+        let letter = u8::from(VertexKind::WireEnd {
+            junction: Some(kind),
+        });
         self.ends[self.m] = End {
             at,
             vertex: v as u32,
-            kind,
+            letter: letter as u32,
         };
         self.m += 1;
     }
@@ -246,6 +253,17 @@ pub fn nearest_end(ends: &[End], m: usize, at: Place) -> usize
 }
 
 impl End {
+    // What a wire's end that joins there carries: a corner by the letter C, by any other word a line segment.
+    pub fn kind(self) -> JunctionKind
+        ensures { Some result ≡ carried (eqb self.letter CORNER) }
+    {
+        if self.letter == CORNER {
+            JunctionKind::Corner
+        } else {
+            JunctionKind::LineSegment
+        }
+    }
+
     // The Manhattan distance to the place.
     fn distance(self, at: Place) -> u64
         ensures { result ≡ manhattan self.at.x self.at.y at.x at.y }

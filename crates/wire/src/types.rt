@@ -5,7 +5,6 @@ ghost use Rattle.astar.specs.Reached.{Below};
 ghost use Rattle.nodes.specs.Graph.{NODES};
 
 use nodes::Graph;
-use vertex::JunctionKind;
 
 // A place; its coordinates are counted from -2^31.
 #[derive(Clone, Copy, Debug, PartialEq, Eq)]
@@ -14,12 +13,13 @@ pub struct Place {
     pub y: u32,
 }
 
-// An end that a net offers to its later wires: its place, the vertex that holds a junction there, and what a wire's end that joins there carries.
+// An end that a net offers to its later wires: its place, the vertex that holds a junction there, and the letter of what a wire's end that joins there carries.
+// The letter is a word, as in a junction's row; `kind` reads it.
 #[derive(Clone, Copy, Debug, PartialEq, Eq)]
 pub struct End {
     pub at: Place,
     pub vertex: u32,
-    pub kind: JunctionKind,
+    pub letter: u32,
 }
 
 // A line: a path of a graph.

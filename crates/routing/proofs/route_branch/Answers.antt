@@ -11,11 +11,11 @@ use Rattle.routing.proofs.route_branch.Goals as goal
 pub returns-in_err-route_wire-clause-value : goal.returns-in_err-route_wire-clause-value
 returns-in_err-route_wire-clause-value c =
     let k : number_of c.from_residual.result ≡ code c.in_err-route_wire.field-0.0 = search rules in
-    branch-tried _ _ _ _ (wires_of c.args.wires.now) _ refl _ refl _ (rw k (branch-wire _ _ _ _ (wires_of c.args.wires.now) _ _ c.joined_end-end.ensures c.in_err-route_wire.ensures.value))
+    branch-tried _ _ _ _ (wires_of c.args.wires.now) _ refl _ refl _ (rw k (branch-wire _ _ _ _ (wires_of c.args.wires.now) _ _ _ c.joined_end-end.ensures c.kind.ensures c.in_err-route_wire.ensures.value))
 
 pub returns-in_err-route_wire-clause-joins_value : goal.returns-in_err-route_wire-clause-joins_value
 returns-in_err-route_wire-clause-joins_value c =
-    branch-refused _ _ _ _ (wires_of c.args.wires.now) _ refl _ refl _ (branch-wire _ _ _ _ (wires_of c.args.wires.now) _ _ c.joined_end-end.ensures c.in_err-route_wire.ensures.value) _ _ (refused c.in_err-route_wire.field-0.0)
+    branch-refused _ _ _ _ (wires_of c.args.wires.now) _ refl _ refl _ (branch-wire _ _ _ _ (wires_of c.args.wires.now) _ _ _ c.joined_end-end.ensures c.kind.ensures c.in_err-route_wire.ensures.value) _ _ (refused c.in_err-route_wire.field-0.0)
 
 pub overflow_sub-wires : goal.overflow_sub-wires
 overflow_sub-wires c =
@@ -24,8 +24,8 @@ overflow_sub-wires c =
 
 pub returns-clause-value : goal.returns-clause-value
 returns-clause-value c =
-    branch-tried _ _ _ _ (wires_of c.args.wires.now) _ refl _ refl _ (branch-wire _ _ _ _ (wires_of c.args.wires.now) _ _ c.joined_end-end.ensures c.in_ok-route_wire.ensures.value)
+    branch-tried _ _ _ _ (wires_of c.args.wires.now) _ refl _ refl _ (branch-wire _ _ _ _ (wires_of c.args.wires.now) _ _ _ c.joined_end-end.ensures c.kind.ensures c.in_ok-route_wire.ensures.value)
 
 pub returns-clause-joins_value : goal.returns-clause-joins_value
 returns-clause-joins_value c =
-    branch-joined _ _ _ _ (wires_of c.args.wires.now) _ refl _ refl _ (branch-wire _ _ _ _ (wires_of c.args.wires.now) _ _ c.joined_end-end.ensures c.in_ok-route_wire.ensures.value) _ _ _ refl (rw (← c.joined_end-end.ensures.vertex, ← c.joined_end-end.ensures.kind) c.push.ensures.value)
+    branch-joined _ _ _ _ (wires_of c.args.wires.now) _ refl _ refl _ (branch-wire _ _ _ _ (wires_of c.args.wires.now) _ _ _ c.joined_end-end.ensures c.kind.ensures c.in_ok-route_wire.ensures.value) _ _ _ refl (rw (← c.joined_end-end.ensures.vertex, ← c.joined_end-end.ensures.letter) c.push.ensures.value)

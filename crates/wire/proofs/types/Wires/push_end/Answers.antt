@@ -9,4 +9,4 @@ pub returns-clause-value : goal.returns-clause-value
 unfolding push_end
 returns-clause-value c =
     let w = c.args.self.now in
-    ap (λ (ws : List ℕ). wires (vertices (ups w.x.now) (ups w.y.now) w.letters.now w.n) (ends ws (w.m + 1))) (words-set w.ends.now w.m _ (omega arith))
+    rw (← c.from-letter.ensures) (ap (λ (ws : List ℕ). wires (vertices (ups w.x.now) (ups w.y.now) w.letters.now w.n) (ends ws (w.m + 1))) (words-set w.ends.now w.m _ (omega arith)))
