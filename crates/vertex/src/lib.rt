@@ -4,6 +4,7 @@
 ghost use Rattle.std.specs.Prelude.{◌≡◌, ◌<◌, length, set};
 ghost use Rattle.fixed.specs.Up.{ups};
 ghost use Rattle.vertex.specs.Kinds.{kind_of, letter_of, start};
+ghost use Rattle.vertex.specs.Vertices.{vertex_at};
 
 // The kind of a junction.
 #[derive(Clone, Copy, Debug, PartialEq, Eq)]
@@ -76,6 +77,18 @@ impl From<VertexKind> for u8 {
                 junction: Some(JunctionKind::LineSegment),
             } => b'L',
         }
+    }
+}
+
+// The vertex i of the lent lists.
+pub fn vertex_at(x: &[i32], y: &[i32], kinds: &[u8], i: usize) -> Vertex
+    requires { (i < length x.now) × (i < length y.now) × (i < length kinds.now) }
+    ensures { result ≡ vertex_at (ups x.now) (ups y.now) kinds.now i }
+{
+    Vertex {
+        x: fixed::at(x, i),
+        y: fixed::at(y, i),
+        kind: VertexKind::from(kinds[i]),
     }
 }
 
