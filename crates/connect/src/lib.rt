@@ -96,8 +96,8 @@ fn refuse(
     ensures kept_rows { KeptRows joins.old joins.new }
     ensures told { result ≡ Err refusal }
 {
-    zeros::close(wires.x, n, 0);
-    zeros::close(wires.y, n, 0);
+    zeros::zero_steps(wires.x, n);
+    zeros::zero_steps(wires.y, n);
     zeros::close(wires.letters, n, 0);
     wires.n = n;
     zeros::close(joins.rows, 3 * j, 0);

@@ -249,8 +249,8 @@ impl Sheet<'_> {
         ensures kept { KeptSheet self.old self.new }
     {
         zeros::close(self.nets, 0, 0);
-        zeros::close(self.x, 0, 0);
-        zeros::close(self.y, 0, 0);
+        zeros::zero_steps(self.x, 0);
+        zeros::zero_steps(self.y, 0);
         zeros::close(self.letters, 0, 0);
         zeros::close(self.joins, 0, 0);
     }

@@ -11,7 +11,7 @@ ghost use Rattle.listing.specs.Lent.{page_of, net_of, part_of, vertices_of, join
 use fixed::get_or;
 
 // A laid-out page: rows of five words a net (number, first vertex, vertices, first junction, junctions), the nets' ids, the vertices'
-// coordinates and letters, and rows of three words a junction (vertex, joining end vertex, letter). There are as many nets as ids.
+// coordinates and letters, and rows of three words a junction (vertex, joining end vertex, letter).
 #[derive(Clone, Copy, Debug, PartialEq, Eq)]
 pub struct Page<'a> {
     pub nets: &'a [u32],
@@ -190,15 +190,15 @@ fn put_net(buf: &mut [u8], at: usize, page: Page, net: Net) -> usize
     put_joins(buf, wires, page, net)
 }
 
-// Writes the listing of a page at the buffer's begin; returns its length.
-pub fn write_listing(buf: &mut [u8], page: Page) -> usize
-    requires n_in_bounds { length (listing (page_of page) (length page.ids.now)) ≤ length buf.old }
-    requires n_bound { length page.ids.now < 4294967296 }
-    ensures put { Put buf.old 0 (listing (page_of page.entry) (length page.entry.ids.now)) buf.new result }
+// Writes the listing of a page's first n nets at the buffer's begin; returns its length. A net past the ids has the id 0.
+pub fn write_listing(buf: &mut [u8], page: Page, n: usize) -> usize
+    requires n_in_bounds { length (listing (page_of page) n) ≤ length buf.old }
+    requires n_bound { n < 4294967296 }
+    ensures put { Put buf.old 0 (listing (page_of page.entry) n) buf.new result }
     ensures first { First result buf.new }
 {
     let mut next = 0;
-    for i in 0..page.ids.len() {
+    for i in 0..n {
         next = put_net(buf, next, page, page.net(i));
     }
     next

@@ -46,7 +46,7 @@ fn print_laid(
         kinds,
         junctions: joins,
     };
-    listing::write_listing(out, page)
+    listing::write_listing(out, page, page.ids.len())
 }
 
 // Lays out the page of a desk, and prints it. The lists are made here.

@@ -86,7 +86,7 @@ fn write_places(coordinates: &[u32], line: &[u32], to: &mut [i32])
     for k in 0..m {
         fixed::put(to, k, coordinates[line[k] as usize]);
     }
-    zeros::close(to, m, 0);
+    zeros::zero_steps(to, m);
 }
 
 // The kind of the k-th of m nodes.
@@ -389,8 +389,8 @@ impl Output<'_> {
         ensures cleared { Cleared self.old self.new }
         ensures kept { KeptOutput self.old self.new }
     {
-        self.x.fill(0);
-        self.y.fill(0);
+        zeros::zero_steps(self.x, 0);
+        zeros::zero_steps(self.y, 0);
         self.kinds.fill(0);
         self.directions.fill(0);
     }

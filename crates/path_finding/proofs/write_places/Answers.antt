@@ -1,6 +1,5 @@
 use Rattle.std.proofs.Common.{◌∙◌, arith}
 use Rattle.fixed.proofs.Lists.{length-ups}
-use Rattle.zeros.proofs.Zeroed.{steps-closed}
 use Rattle.path_finding.proofs.Laws.{table-begin, table-put, place_on, place-off}
 use Rattle.path_finding.proofs.Lines.{table-closed}
 use Rattle.path_finding.proofs.write_places.Goals as goal
@@ -13,4 +12,4 @@ loop-k-preserved c = table-put _ _ _ _ _ c.loop-k.invariant (omega arith) c.put.
 
 pub returns : goal.returns
 returns c =
-    steps-closed _ _ _ c.close.ensures ∙ table-closed _ _ _ _ _ _ c.loop-k.invariant (omega arith) (omega arith) (length-ups _ ∙ c.loop-k.auto.to) (λ k a b. place-off _ _ k (omega arith))
+    c.zero_steps.ensures ∙ table-closed _ _ _ _ _ _ c.loop-k.invariant (omega arith) (omega arith) (length-ups _ ∙ c.loop-k.auto.to) (λ k a b. place-off _ _ k (omega arith))
