@@ -208,24 +208,29 @@ impl Builder<'_> {
         }
         Some(())
     }
+}
 
-    // A node for each anchor's place, in a graph of none.
-    fn build_nodes(&mut self, anchors: &[Anchor], explicit: usize) -> Option<()>
-        requires none { graph_in self.old ≡ empty }
-        requires keyed { Keyed self.old.map (graph_in self.old) }
-        ensures built { Built result (graph_in self.new) (build_nodes (anchors_of anchors.now explicit)) }
-        ensures kept { Kept self.old self.new }
-    {
-        for (k, anchor) in anchors.iter().enumerate() {
-            let mark = if k < explicit {
-                anchor.directions | nodes::EXPLICIT
-            } else {
-                anchor.directions
-            };
-            self.graph.place(&mut self.map, anchor.x, anchor.y, mark)?;
-        }
-        Some(())
+// A node for each anchor's place, in a graph of none.
+pub fn build_nodes(
+    anchors: &[Anchor],
+    explicit: usize,
+    graph: &mut Graph,
+    map: &mut Map,
+) -> Option<()>
+    requires none { graph_of graph.old ≡ empty }
+    requires keyed { Keyed map.old (graph_of graph.old) }
+    ensures built { Built result (graph_of graph.new) (build_nodes (anchors_of anchors.now explicit)) }
+    ensures keyed { Keyed map.new (graph_of graph.new) }
+{
+    for (k, anchor) in anchors.iter().enumerate() {
+        let mark = if k < explicit {
+            anchor.directions | nodes::EXPLICIT
+        } else {
+            anchor.directions
+        };
+        graph.place(map, anchor.x, anchor.y, mark)?;
     }
+    Some(())
 }
 
 // The graph, not pruned: nothing where it would have more than NODES nodes. What the graph held before is lost.
@@ -234,12 +239,9 @@ pub fn build(page: Page, anchors: &[Anchor], explicit: usize, graph: &mut Graph)
     ensures { Built result (graph_of graph.new) (build (page_in page.entry) (anchors_of anchors.now explicit)) }
 {
     graph.clear();
-    let mut builder = Builder {
-        page,
-        graph,
-        map: Map::new(),
-    };
-    builder.build_nodes(anchors, explicit)?;
+    let mut map = Map::new();
+    build_nodes(anchors, explicit, graph, &mut map)?;
+    let mut builder = Builder { page, graph, map };
     for anchor in anchors {
         builder.scan_anchor(*anchor)?;
     }
