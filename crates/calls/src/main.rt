@@ -9,11 +9,15 @@ use book::{Kind, number_of};
 use std::io;
 use vector_list::{signed, unsigned};
 
-// A line of the list: its word, the six fields behind it as words, and the text that follows it.
+// The number of a line that says no call.
+const NO_CALL: u32 = 99;
+
+// A line of the list: its word, the six fields behind it as words, the number in its last field, and the text that follows it.
 #[derive(Clone, Copy, Debug, PartialEq, Eq)]
 struct Line<'a> {
     word: &'a [u8],
     fields: [Option<u64>; 6],
+    number: Option<u32>,
     text: &'a [u8],
 }
 
@@ -29,6 +33,21 @@ fn fields(list: &[u8], at: usize) -> [Option<u64>; 6]
         next = field.next;
     }
     words
+}
+
+// The number in the last field of the line at `at`, if an LF ends the line and it has at most eight fields.
+fn last_number(list: &[u8], at: usize) -> Option<u32>
+    requires { at ≤ length list.now }
+{
+    let mut next = at;
+    for _ in 0..8 {
+        let field = vector_list::field(list, next);
+        if list.get(vector_list::field_end(list, next)) == Some(&b'\n') {
+            return Some(unsigned(field.word));
+        }
+        next = field.next;
+    }
+    None
 }
 
 // The line at `at`, and the place behind it and its text.
@@ -47,32 +66,30 @@ fn read_line<'a>(list: &'a [u8], at: usize) -> (Line<'a>, usize)
     let line = Line {
         word,
         fields,
+        number: last_number(list, at),
         text: &list[start..end],
     };
     (line, end)
 }
 
-// Makes the call that a line says; whether it answers the number in the field behind its arguments.
+// Makes the call that a line says; whether it answers the number in the line's last field.
 fn call(desk: &mut [u32], line: &Line) -> bool {
     let f = line.fields;
     let id = unsigned(f[0]);
     let (x, y, last) = (signed(f[1]), signed(f[2]), unsigned(f[3]));
-    let (done, number) = match line.word {
-        b"box" => (
-            clue_desk::add_box(desk, id, x, y, signed(f[3]), signed(f[4])),
-            f[5],
-        ),
-        b"port" => (clue_desk::add_port(desk, id, x, y, last), f[4]),
-        b"net" => (clue_desk::add_net(desk, id), f[1]),
-        b"end" => (clue_desk::add_end(desk, id, x, y, last), f[4]),
-        b"rbox" => (clue_desk::retire_box(desk, id), f[1]),
-        b"rport" => (clue_desk::retire_port(desk, id), f[1]),
-        b"rnet" => (clue_desk::retire_net(desk, id), f[1]),
-        b"rend" => (clue_desk::retire_end(desk, id), f[1]),
-        b"undo" => (clue_desk::undo(desk), f[0]),
-        _ => return false,
+    let done = match line.word {
+        b"box" => clue_desk::add_box(desk, id, x, y, signed(f[3]), signed(f[4])),
+        b"port" => clue_desk::add_port(desk, id, x, y, last),
+        b"net" => clue_desk::add_net(desk, id),
+        b"end" => clue_desk::add_end(desk, id, x, y, last),
+        b"rbox" => clue_desk::retire_box(desk, id),
+        b"rport" => clue_desk::retire_port(desk, id),
+        b"rnet" => clue_desk::retire_net(desk, id),
+        b"rend" => clue_desk::retire_end(desk, id),
+        b"undo" => clue_desk::undo(desk),
+        _ => return line.number == Some(NO_CALL),
     };
-    number_of(done) == unsigned(number)
+    line.number == Some(number_of(done))
 }
 
 // Whether two desks hold the same records of a kind: the same count, and the same rows.
