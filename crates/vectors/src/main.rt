@@ -14,10 +14,11 @@ use section::Section;
 use std::{fs, io};
 use tally::Tally;
 
-// The page that was read last: its section, whether its text was refused, and the desk with its records; and what was counted.
+// The page that was read last, before which the list's first section stands for it; whether its text was refused, and the desk with its records; and what was
+// counted.
 #[derive(Debug, PartialEq, Eq, Drop)]
 struct Replay<'a> {
-    page: Section<'a>,
+    page: Option<Section<'a>>,
     refused: bool,
     desk: Desk,
     tally: Tally,
@@ -28,19 +29,17 @@ impl<'a> Replay<'a> {
     fn read(&mut self, page: Section<'a>) {
         let mut refusal = [0; page_text::REFUSAL];
         let read = page_text::read_text(&mut self.desk, page.bytes, &mut refusal);
-        self.page = page;
+        self.page = Some(page);
         self.refused = read.is_err();
         self.tally.pages = self.tally.pages.saturating_add(1);
     }
 
     // Compares another section with the page; whether it does not differ.
-    fn compare(&mut self, section: Section) -> bool {
+    fn compare(&mut self, page: &Section, section: &Section) -> bool {
         let (desk, tally) = (&self.desk, &mut self.tally);
         let (header, bytes) = (section.fields(), section.bytes);
         if self.refused {
-            return tally
-                .refused
-                .note(page::listing(self.page.bytes, header, bytes));
+            return tally.refused.note(page::listing(page.bytes, header, bytes));
         }
         match section.word() {
             b"anchors" => tally.anchor_lists.note(page::anchors(desk, bytes)),
@@ -49,7 +48,7 @@ impl<'a> Replay<'a> {
             b"search" => tally.searches.note(query::search(desk, header, bytes)),
             b"wires" => tally
                 .listings
-                .note(page::listing(self.page.bytes, header, bytes)),
+                .note(page::listing(page.bytes, header, bytes)),
             _ => {
                 tally.passed = tally.passed.saturating_add(1);
                 true
@@ -61,22 +60,24 @@ impl<'a> Replay<'a> {
     fn replay(&mut self, rt: &impl Print, section: Section<'a>) -> io::Result<()> {
         if matches!(section.word(), b"page") {
             self.read(section);
-        } else if !self.compare(section) {
+            return Ok(());
+        }
+        let page = self.page.unwrap_or(section);
+        self.page = Some(page);
+        if !self.compare(&page, &section) {
             self.tally.wrong = self.tally.wrong.saturating_add(1);
-            section.tell(rt, &self.page)?;
+            section.tell(rt, &page)?;
         }
         Ok(())
     }
 }
 
 fn main(rt: HostRuntime) -> io::Result<()> {
-    let list = fs::read(&rt, "pages.txt")?;
-    let mut rest = list.as_slice();
+    let mut room = vector_list::room();
+    let n = vector_list::read_list(&mut fs::open(&rt, "pages.txt")?, &mut room)?;
+    let mut rest = &room[..n];
     let mut replay = Replay {
-        page: Section {
-            header: &[],
-            bytes: &[],
-        },
+        page: None,
         refused: false,
         desk: [0; desk::DESK],
         tally: Tally::default(),

@@ -1,4 +1,4 @@
-// Compares what a page gives with sections of the list: how many entries were compared, if none differs.
+// Compares what a page gives with sections of the list; there is no verdict where it gives nothing.
 ghost use Rattle.std.specs.Prelude.{◌≤◌, IfSome, length};
 ghost use Rattle.corridors.specs.Sizes.{ANCHORS};
 ghost use Rattle.anchors.specs.Lent.{records_in};
@@ -6,6 +6,7 @@ ghost use Rattle.page_graph.specs.Lent.{Asked};
 
 use crate::dump;
 use crate::fields::Fields;
+use crate::tally::Verdict;
 use anchors::Records;
 use fixed::{Anchor, PaddedBox};
 use nodes::Graph;
@@ -42,32 +43,41 @@ fn graph_of(desk: &Desk, pruned: bool) -> Option<Graph> {
 }
 
 // Compares the implicit anchors.
-pub fn anchors(desk: &Desk, bytes: &[u8]) -> Option<usize> {
+pub fn anchors(desk: &Desk, bytes: &[u8]) -> Option<Verdict> {
     let mut list = [Anchor::BLANK; corridors::ANCHORS];
     let n = implicit_anchors(desk, &mut list)?;
-    dump::anchors_are(bytes, &list[..n]).then_some(n)
+    Some(Verdict {
+        same: dump::anchors_are(bytes, &list[..n]),
+        entries: n,
+    })
 }
 
 // Compares the graph's nodes; the header says whether it is pruned.
-pub fn graph(desk: &Desk, mut header: Fields, bytes: &[u8]) -> Option<usize> {
+pub fn graph(desk: &Desk, mut header: Fields, bytes: &[u8]) -> Option<Verdict> {
     let graph = graph_of(desk, header.flag())?;
-    dump::nodes_are(bytes, &graph).then_some(graph.count)
+    Some(Verdict {
+        same: dump::nodes_are(bytes, &graph),
+        entries: graph.count,
+    })
 }
 
 // Compares how many implicit anchors the page has, and how many nodes before and after pruning, with the header.
-pub fn counts(desk: &Desk, mut header: Fields) -> Option<usize> {
+pub fn counts(desk: &Desk, mut header: Fields) -> Option<Verdict> {
     let mut list = [Anchor::BLANK; corridors::ANCHORS];
     let same = header.number_is(implicit_anchors(desk, &mut list)? as u32)
         && header.number_is(graph_of(desk, false)?.count as u32)
         && header.number_is(graph_of(desk, true)?.count as u32);
-    same.then_some(0)
+    Some(Verdict { same, entries: 0 })
 }
 
 // Compares what is printed of a page text, byte by byte; the header says whether the graph is pruned and the wires separated.
-pub fn listing(text: &[u8], mut header: Fields, bytes: &[u8]) -> Option<usize> {
+pub fn listing(text: &[u8], mut header: Fields, bytes: &[u8]) -> Option<Verdict> {
     let pruned = header.flag();
     let apart = header.flag();
     let mut out = [0; page_listing::ROOM];
     let n = page_listing::list_page(text, pruned, apart, &mut out);
-    (&out[..n] == bytes).then_some(n)
+    Some(Verdict {
+        same: &out[..n] == bytes,
+        entries: bytes.len(),
+    })
 }

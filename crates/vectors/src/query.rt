@@ -4,6 +4,7 @@ ghost use Rattle.nodes.specs.Graph.{NODES};
 
 use crate::fields::Fields;
 use crate::page::Desk;
+use crate::tally::Verdict;
 use desk_search::Request;
 use nodes::NODES;
 use path_finding::Output;
@@ -54,8 +55,8 @@ impl Line {
     }
 }
 
-// Compares a search whose header says pruned or not, the start, and the ends; how many nodes its line has, if it does not differ.
-pub fn search(desk: &Desk, mut header: Fields, bytes: &[u8]) -> Option<usize> {
+// Compares a search whose header says pruned or not, the start, and the ends; there is no verdict where the ends are too many. The entries are its line's nodes.
+pub fn search(desk: &Desk, mut header: Fields, bytes: &[u8]) -> Option<Verdict> {
     let prune = header.unsigned();
     let x = header.signed();
     let y = header.signed();
@@ -84,6 +85,8 @@ pub fn search(desk: &Desk, mut header: Fields, bytes: &[u8]) -> Option<usize> {
         directions: &mut line.directions,
     };
     let found = desk_search::search(desk, request, &mut output);
-    line.is_answer(book::number_of(found), bytes)
-        .then_some(line.count())
+    Some(Verdict {
+        same: line.is_answer(book::number_of(found), bytes),
+        entries: line.count(),
+    })
 }

@@ -1,7 +1,14 @@
 // What is counted.
 use std::fmt;
 
-// How many sections of a kind were compared, and how many entries the ones that do not differ have.
+// What a comparison came to: whether all was as it should be, and how many entries were compared.
+#[derive(Clone, Copy, Debug, PartialEq, Eq)]
+pub struct Verdict {
+    pub same: bool,
+    pub entries: usize,
+}
+
+// How many sections of a kind were compared, and how many entries they have.
 #[derive(Clone, Copy, Debug, Default, PartialEq, Eq)]
 pub struct Count {
     sections: u64,
@@ -9,13 +16,14 @@ pub struct Count {
 }
 
 impl Count {
-    // Counts a section of so many entries, or one that differs; whether it does not.
-    pub fn note(&mut self, compared: Option<usize>) -> bool {
+    // Counts a section, with its entries if they could be compared; whether it does not differ.
+    pub fn note(&mut self, compared: Option<Verdict>) -> bool {
         self.sections = self.sections.saturating_add(1);
-        if let Some(entries) = compared {
-            self.entries = self.entries.saturating_add(entries as u64);
-        }
-        compared.is_some()
+        let Some(verdict) = compared else {
+            return false;
+        };
+        self.entries = self.entries.saturating_add(verdict.entries as u64);
+        verdict.same
     }
 }
 
