@@ -8,11 +8,14 @@ use Prim.Native.Nat.{ℕ, zero, suc, ◌+◌, ◌*◌, ◌<◌, ◌≤◌}
 use native.Mathlib.Omega.{arith}
 use borrow.Author.Tests.{lt-ltb, le-ltb}
 use lib.Bits.{bit_or}
+use lib.IntN.{ℤ}
 use lib.ListN.{length, get_or, take, set}
 use lib.Seq.{get_or-take}
 use Rattle.std.proofs.lemmas.List.{length-take}
 use Rattle.std.specs.List.{flat_map}
 use Rattle.std.proofs.lemmas.Grind.{flat_map-append}
+use Rattle.fixed.specs.Up.{ups}
+use Rattle.fixed.proofs.Lists.{length-ups}
 use Rattle.nodes.specs.declared.Graph.{Graph as Store}
 use Rattle.nodes.specs.Graph.{Graph, NODES, none, opposite, find, stand, aim, mark_as, remark, push, place, linked, link}
 use Rattle.nodes.specs.Columns.{four_of, links_of, graph_of, whole_of}
@@ -68,33 +71,33 @@ links-push n ls l h = rw (snoc-at ls n (n + 1) l refl h) (flat_map-append four_o
 
 -- ---- a place, a link, a mark stored
 
-pub stood : (s : Store) (i x y : ℕ)
-    → record { count = s.count; xs = take s.count (set s.xs i x); ys = take s.count (set s.ys i y); links = links_of (take s.count s.links); marks = take s.count s.marks } ≡ stand (graph_of s) i x y
-unfolding stand
-stood s i x y = rw (take-set s.count s.xs i x, take-set s.count s.ys i y)
+module _ (s : Store) (i x y : ℕ) (xs ys : List ℤ) (new-x : ups xs ≡ set (ups s.xs) i x) (new-y : ups ys ≡ set (ups s.ys) i y) where
+  pub stood : record { count = s.count; xs = take s.count (ups xs); ys = take s.count (ups ys); links = links_of (take s.count s.links); marks = take s.count s.marks } ≡ stand (graph_of s) i x y
+  unfolding stand
+  stood = rw (new-x, new-y, take-set s.count (ups s.xs) i x, take-set s.count (ups s.ys) i y)
 
-pub stood-whole : (s : Store) (i x y : ℕ) → record { count = NODES; xs = set s.xs i x; ys = set s.ys i y; links = links_of s.links; marks = s.marks } ≡ stand (whole_of s) i x y
-unfolding stand
-stood-whole s i x y = refl
+  pub stood-whole : record { count = NODES; xs = ups xs; ys = ups ys; links = links_of s.links; marks = s.marks } ≡ stand (whole_of s) i x y
+  unfolding stand
+  stood-whole = rw (new-x, new-y)
 
 pub marked : (s : Store) (i m : ℕ)
-    → record { count = s.count; xs = take s.count s.xs; ys = take s.count s.ys; links = links_of (take s.count s.links); marks = take s.count (set s.marks i m) } ≡ mark_as (graph_of s) i m
+    → record { count = s.count; xs = take s.count (ups s.xs); ys = take s.count (ups s.ys); links = links_of (take s.count s.links); marks = take s.count (set s.marks i m) } ≡ mark_as (graph_of s) i m
 unfolding mark_as
 marked s i m = rw (take-set s.count s.marks i m)
 
-pub marked-whole : (s : Store) (i m : ℕ) → record { count = NODES; xs = s.xs; ys = s.ys; links = links_of s.links; marks = set s.marks i m } ≡ mark_as (whole_of s) i m
+pub marked-whole : (s : Store) (i m : ℕ) → record { count = NODES; xs = ups s.xs; ys = ups s.ys; links = links_of s.links; marks = set s.marks i m } ≡ mark_as (whole_of s) i m
 unfolding mark_as
 marked-whole s i m = refl
 
 pub aimed : (s : Store) (i d v : ℕ) → d < 4 → length (get_or s.links i []) ≡ 4
-    → record { count = s.count; xs = take s.count s.xs; ys = take s.count s.ys; links = links_of (take s.count (set s.links i (set (get_or s.links i []) d v))); marks = take s.count s.marks } ≡ aim (graph_of s) (i * 4 + d) v
+    → record { count = s.count; xs = take s.count (ups s.xs); ys = take s.count (ups s.ys); links = links_of (take s.count (set s.links i (set (get_or s.links i []) d v))); marks = take s.count s.marks } ≡ aim (graph_of s) (i * 4 + d) v
 unfolding aim
 aimed s i d v b k = rw (links-set s.count s.links i d v b k)
 
-pub aimed-whole : (s : Store) (i d v : ℕ) → d < 4 → length (get_or s.links i []) ≡ 4
-    → record { count = NODES; xs = s.xs; ys = s.ys; links = links_of (set s.links i (set (get_or s.links i []) d v)); marks = s.marks } ≡ aim (whole_of s) (i * 4 + d) v
+pub aimed_whole : (s : Store) (i d v : ℕ) → d < 4 → length (get_or s.links i []) ≡ 4
+    → record { count = NODES; xs = ups s.xs; ys = ups s.ys; links = links_of (set s.links i (set (get_or s.links i []) d v)); marks = s.marks } ≡ aim (whole_of s) (i * 4 + d) v
 unfolding aim
-aimed-whole s i d v b k = rw (links-put s.links i d v b k)
+aimed_whole s i d v b k = rw (links-put s.links i d v b k)
 
 pub linked-by : (g g' g'' : Graph) (d i j : ℕ) → g' ≡ aim g (i * 4 + d) j → g'' ≡ aim g' (j * 4 + opposite d) i → g'' ≡ link g d i j
 unfolding link linked aim
@@ -104,17 +107,17 @@ linked-by g g' g'' d i j e f = rw (f, e)
 
 module _ (s : Store) (x y m : ℕ) where
   pub placed_met : (i : ℕ) → i ≡ find (graph_of s) x y → i < s.count
-      → record { count = s.count; xs = take s.count s.xs; ys = take s.count s.ys; links = links_of (take s.count s.links); marks = take s.count (set s.marks i (bit_or (get_or s.marks i 0) m)) } ≡ place (graph_of s) x y m
+      → record { count = s.count; xs = take s.count (ups s.xs); ys = take s.count (ups s.ys); links = links_of (take s.count s.links); marks = take s.count (set s.marks i (bit_or (get_or s.marks i 0) m)) } ≡ place (graph_of s) x y m
   unfolding place remark mark_as
   placed_met i e h =
       rw (← e, lt-ltb i s.count h, take-set s.count s.marks i (bit_or (get_or s.marks i 0) m), get_or-take s.count s.marks i 0 h)
 
   module _ (h : s.count ≤ find (graph_of s) x y) where
-    pub placed-new : s.count < length s.xs → s.count < length s.ys → s.count < length s.links → s.count < length s.marks
-        → record { count = s.count + 1; xs = take (s.count + 1) (set s.xs s.count x); ys = take (s.count + 1) (set s.ys s.count y); links = links_of (take (s.count + 1) (set s.links s.count (none ∷ none ∷ none ∷ none ∷ []))); marks = take (s.count + 1) (set s.marks s.count m) } ≡ place (graph_of s) x y m
+    pub placed-new : (xs ys : List ℤ) → ups xs ≡ set (ups s.xs) s.count x → ups ys ≡ set (ups s.ys) s.count y → s.count < length s.xs → s.count < length s.ys → s.count < length s.links → s.count < length s.marks
+        → record { count = s.count + 1; xs = take (s.count + 1) (ups xs); ys = take (s.count + 1) (ups ys); links = links_of (take (s.count + 1) (set s.links s.count (none ∷ none ∷ none ∷ none ∷ []))); marks = take (s.count + 1) (set s.marks s.count m) } ≡ place (graph_of s) x y m
     unfolding place push
-    placed-new a b c d =
-        rw (le-ltb _ s.count h, snoc-at s.xs s.count (s.count + 1) x refl a, snoc-at s.ys s.count (s.count + 1) y refl b, links-push s.count s.links (none ∷ none ∷ none ∷ none ∷ []) c, snoc-at s.marks s.count (s.count + 1) m refl d)
+    placed-new xs ys ex ey a b c d =
+        rw (le-ltb _ s.count h, ex, ey, snoc-at (ups s.xs) s.count (s.count + 1) x refl (rw length-ups a), snoc-at (ups s.ys) s.count (s.count + 1) y refl (rw length-ups b), links-push s.count s.links (none ∷ none ∷ none ∷ none ∷ []) c, snoc-at s.marks s.count (s.count + 1) m refl d)
 
     pub full-new : (place (graph_of s) x y m).count ≡ s.count + 1
     unfolding place push

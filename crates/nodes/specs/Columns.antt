@@ -1,6 +1,7 @@
--- The graph in a `Graph` of the code: the first `count` of each column; and all that the columns hold.
+-- The graph in a `Graph` of the code: the first `count` of each column; and all that the columns hold. Places are signed steps, as lent lists are.
 use Rattle.std.specs.Prelude.{List, [], ◌∷◌, ℕ, take, get_or}
 use Rattle.std.specs.List.{flat_map}
+use Rattle.fixed.specs.Up.{ups}
 use Rattle.nodes.specs.declared.Graph.{Graph as Store}
 use Rattle.nodes.specs.Graph.{Graph, NODES}
 
@@ -13,8 +14,8 @@ unfoldable pub links_of : List (List ℕ) → List ℕ
 links_of ls = flat_map four_of ls
 
 abbrev pub graph_of : Store → Graph
-graph_of s = record { count = s.count; xs = take s.count s.xs; ys = take s.count s.ys; links = links_of (take s.count s.links); marks = take s.count s.marks }
+graph_of s = record { count = s.count; xs = take s.count (ups s.xs); ys = take s.count (ups s.ys); links = links_of (take s.count s.links); marks = take s.count s.marks }
 
 -- all nodes, what stands behind the count too
 abbrev pub whole_of : Store → Graph
-whole_of s = record { count = NODES; xs = s.xs; ys = s.ys; links = links_of s.links; marks = s.marks }
+whole_of s = record { count = NODES; xs = ups s.xs; ys = ups s.ys; links = links_of s.links; marks = s.marks }

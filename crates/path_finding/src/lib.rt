@@ -78,13 +78,13 @@ fn has_link(graph: &Graph, v: usize) -> bool
 }
 
 // Writes one coordinate of each node of a line, zeros behind them.
-fn write_places(coordinates: &[u32], line: &[u32], to: &mut [i32])
+fn write_places(coordinates: &[i32], line: &[u32], to: &mut [i32])
     requires { Below (length coordinates.now) line.now }
-    ensures { ups to.new ≡ table (place_at coordinates.now line.now) (length to.old) }
+    ensures { ups to.new ≡ table (place_at (ups coordinates.now) line.now) (length to.old) }
 {
     let m = line.len().min(to.len());
     for k in 0..m {
-        fixed::put(to, k, coordinates[line[k] as usize]);
+        fixed::put(to, k, fixed::at(coordinates, line[k] as usize));
     }
     zeros::zero_steps(to, m);
 }

@@ -15,6 +15,7 @@ use lib.Dec.{eqb, ltb, leb}
 use lib.ListN.{get_or, take}
 use lib.Seq.{take-take}
 use Rattle.fixed.proofs.Bools.{and_left, and_right}
+use Rattle.fixed.specs.Up.{ups}
 use Rattle.nodes.specs.declared.Graph.{Graph as Store}
 use Rattle.nodes.specs.Graph.{Graph, X, Y, onward, mark_of, opposite, stand, aim, mark_as, link}
 use Rattle.nodes.specs.Columns.{links_of, graph_of}
@@ -74,10 +75,10 @@ pub moved_is : (g g1 g2 g3 : Graph) (i j x y m : ℕ) → x ≡ X g j → y ≡ 
 unfolding stand mark_as with_links moved
 moved_is g g1 g2 g3 i j x y m ex ey q1 q2 em q3 = rw (q3, em, q2, q1, ex, ey)
 
-pub shrunk : (s : Store) (n : ℕ) → s.count ≡ n → record { count = n - 1; xs = take (n - 1) s.xs; ys = take (n - 1) s.ys; links = links_of (take (n - 1) s.links); marks = take (n - 1) s.marks } ≡ shrink (graph_of s)
+pub shrunk : (s : Store) (n : ℕ) → s.count ≡ n → record { count = n - 1; xs = take (n - 1) (ups s.xs); ys = take (n - 1) (ups s.ys); links = links_of (take (n - 1) s.links); marks = take (n - 1) s.marks } ≡ shrink (graph_of s)
 unfolding shrink
 shrunk s n e =
-    rw (← e, links-take (s.count - 1) (take s.count s.links), take-take (s.count - 1) s.count s.xs (omega arith), take-take (s.count - 1) s.count s.ys (omega arith), take-take (s.count - 1) s.count s.links (omega arith), take-take (s.count - 1) s.count s.marks (omega arith))
+    rw (← e, links-take (s.count - 1) (take s.count s.links), take-take (s.count - 1) s.count (ups s.xs) (omega arith), take-take (s.count - 1) s.count (ups s.ys) (omega arith), take-take (s.count - 1) s.count s.links (omega arith), take-take (s.count - 1) s.count s.marks (omega arith))
 
 pub drop-last : (s : Store) (i : ℕ) → i ≡ s.count - 1 → shrink (graph_of s) ≡ drop_node (graph_of s) i
 unfolding drop_node

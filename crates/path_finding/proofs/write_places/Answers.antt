@@ -8,7 +8,7 @@ pub loop-k-init : goal.loop-k-init
 loop-k-init c = table-begin _
 
 pub loop-k-preserved : goal.loop-k-preserved
-loop-k-preserved c = table-put _ _ _ _ _ c.loop-k.invariant (omega arith) c.put.ensures (place_on _ _ _ (omega arith))
+loop-k-preserved c = table-put _ _ _ _ _ c.loop-k.invariant (omega arith) c.put.ensures (c.at.ensures ∙ place_on _ _ _ (omega arith))
 
 pub returns : goal.returns
 returns c =

@@ -14,8 +14,8 @@ returns-then-i-eq-NODES-clause-met c = omega (arith, full-new c.args.self.now c.
 
 pub returns-clause-met : goal.returns-clause-met
 returns-clause-met c =
-    (omega (arith, c.in_default.ensures, find-le (graph_of c.args.self.now) c.args.x c.args.y), omega arith, placed-new c.args.self.now c.args.x c.args.y c.args.m c.in_default.ensures (omega arith) (omega arith) (omega arith) (omega arith))
+    (omega (arith, c.in_default.ensures, find-le (graph_of c.args.self.now) c.args.x c.args.y), omega arith, placed-new c.args.self.now c.args.x c.args.y c.args.m c.in_default.ensures _ _ c.put.ensures c.put-2.ensures (omega arith) (omega arith) (omega arith) (omega arith))
 
 pub returns-clause-keyed : goal.returns-clause-keyed
 returns-clause-keyed c =
-    keyed-new c.args.self.now c.args.x c.args.y c.requires c.in_default.ensures (omega arith) (omega arith) (omega arith) (omega arith) c.enter.ensures
+    keyed-new c.args.self.now c.args.x c.args.y _ _ c.put.ensures c.put-2.ensures c.requires c.in_default.ensures (omega arith) (omega arith) (omega arith) (omega arith) c.enter.ensures
