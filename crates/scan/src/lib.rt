@@ -208,9 +208,19 @@ impl Builder<'_> {
         }
         Some(())
     }
+
+    // A node for each anchor's place, in a graph of none.
+    fn build_nodes(&mut self, anchors: &[Anchor], explicit: usize) -> Option<()>
+        requires none { graph_in self.old ≡ empty }
+        requires keyed { Keyed self.old.map (graph_in self.old) }
+        ensures built { Built result (graph_in self.new) (build_nodes (anchors_of anchors.now explicit)) }
+        ensures kept { Kept self.old self.new }
+    {
+        build_nodes(anchors, explicit, self.graph, &mut self.map)
+    }
 }
 
-// A node for each anchor's place, in a graph of none.
+// The same of a graph and a map that are lent.
 pub fn build_nodes(
     anchors: &[Anchor],
     explicit: usize,
@@ -239,9 +249,12 @@ pub fn build(page: Page, anchors: &[Anchor], explicit: usize, graph: &mut Graph)
     ensures { Built result (graph_of graph.new) (build (page_in page.entry) (anchors_of anchors.now explicit)) }
 {
     graph.clear();
-    let mut map = Map::new();
-    build_nodes(anchors, explicit, graph, &mut map)?;
-    let mut builder = Builder { page, graph, map };
+    let mut builder = Builder {
+        page,
+        graph,
+        map: Map::new(),
+    };
+    builder.build_nodes(anchors, explicit)?;
     for anchor in anchors {
         builder.scan_anchor(*anchor)?;
     }
