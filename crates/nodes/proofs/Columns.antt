@@ -51,8 +51,9 @@ unfolding links_of
 set_at [] i d v l h b e = refl
 set_at (a ∷ ls) zero d v l h b e =
     let z : 0 * 4 + d ≡ d = omega arith in
-    let f : four_of (set l d v) ++ flat_map four_of ls ≡ set (flat_map four_of (l ∷ ls)) d v = ap (λ (f : List ℕ). f ++ flat_map four_of ls) (fours_set l d v b h) ∙ four (λ k. set (four_of l) k v ++ flat_map four_of ls ≡ set (flat_map four_of (l ∷ ls)) k v) refl refl refl refl d h in
-    rw z (subst (λ (m : List ℕ). four_of (set l d v) ++ flat_map four_of ls ≡ set (flat_map four_of (m ∷ ls)) d v) (sym (e (omega arith))) f)
+    let first = ap (λ (f : List ℕ). f ++ flat_map four_of ls) (fours_set l d v b h) in
+    let all = four (λ k. set (four_of l) k v ++ flat_map four_of ls ≡ set (flat_map four_of (l ∷ ls)) k v) refl refl refl refl d h in
+    rw z (subst (λ (m : List ℕ). four_of (set l d v) ++ flat_map four_of ls ≡ set (flat_map four_of (m ∷ ls)) d v) (sym (e (omega arith))) (first ∙ all))
 set_at (a ∷ ls) (suc i) d v l h b e =
     let z : suc i * 4 + d ≡ suc (suc (suc (suc (i * 4 + d)))) = omega arith in
     rw (z, set_at ls i d v l h b (λ q. e (omega arith)))
@@ -90,7 +91,13 @@ unfolding mark_as
 marked-whole s i m = refl
 
 pub aimed : (s : Store) (i d v : ℕ) → d < 4 → length (get_or s.links i []) ≡ 4
-    → record { count = s.count; xs = take s.count (ups s.xs); ys = take s.count (ups s.ys); links = links_of (take s.count (set s.links i (set (get_or s.links i []) d v))); marks = take s.count s.marks } ≡ aim (graph_of s) (i * 4 + d) v
+    → record {
+      count = s.count;
+      xs = take s.count (ups s.xs);
+      ys = take s.count (ups s.ys);
+      links = links_of (take s.count (set s.links i (set (get_or s.links i []) d v)));
+      marks = take s.count s.marks;
+    } ≡ aim (graph_of s) (i * 4 + d) v
 unfolding aim
 aimed s i d v b k = rw (links-set s.count s.links i d v b k)
 
@@ -107,17 +114,33 @@ linked-by g g' g'' d i j e f = rw (f, e)
 
 module _ (s : Store) (x y m : ℕ) where
   pub placed_met : (i : ℕ) → i ≡ find (graph_of s) x y → i < s.count
-      → record { count = s.count; xs = take s.count (ups s.xs); ys = take s.count (ups s.ys); links = links_of (take s.count s.links); marks = take s.count (set s.marks i (bit_or (get_or s.marks i 0) m)) } ≡ place (graph_of s) x y m
+      → record {
+        count = s.count;
+        xs = take s.count (ups s.xs);
+        ys = take s.count (ups s.ys);
+        links = links_of (take s.count s.links);
+        marks = take s.count (set s.marks i (bit_or (get_or s.marks i 0) m));
+      } ≡ place (graph_of s) x y m
   unfolding place remark mark_as
   placed_met i e h =
       rw (← e, lt-ltb i s.count h, take-set s.count s.marks i (bit_or (get_or s.marks i 0) m), get_or-take s.count s.marks i 0 h)
 
   module _ (h : s.count ≤ find (graph_of s) x y) where
-    pub placed-new : (xs ys : List ℤ) → ups xs ≡ set (ups s.xs) s.count x → ups ys ≡ set (ups s.ys) s.count y → s.count < length s.xs → s.count < length s.ys → s.count < length s.links → s.count < length s.marks
-        → record { count = s.count + 1; xs = take (s.count + 1) (ups xs); ys = take (s.count + 1) (ups ys); links = links_of (take (s.count + 1) (set s.links s.count (none ∷ none ∷ none ∷ none ∷ []))); marks = take (s.count + 1) (set s.marks s.count m) } ≡ place (graph_of s) x y m
+    pub placed-new : (xs ys : List ℤ) → ups xs ≡ set (ups s.xs) s.count x → ups ys ≡ set (ups s.ys) s.count y
+        → s.count < length s.xs → s.count < length s.ys → s.count < length s.links → s.count < length s.marks
+        → record {
+          count = s.count + 1;
+          xs = take (s.count + 1) (ups xs);
+          ys = take (s.count + 1) (ups ys);
+          links = links_of (take (s.count + 1) (set s.links s.count (none ∷ none ∷ none ∷ none ∷ [])));
+          marks = take (s.count + 1) (set s.marks s.count m);
+        } ≡ place (graph_of s) x y m
     unfolding place push
     placed-new xs ys ex ey a b c d =
-        rw (le-ltb _ s.count h, ex, ey, snoc-at (ups s.xs) s.count (s.count + 1) x refl (rw length-ups a), snoc-at (ups s.ys) s.count (s.count + 1) y refl (rw length-ups b), links-push s.count s.links (none ∷ none ∷ none ∷ none ∷ []) c, snoc-at s.marks s.count (s.count + 1) m refl d)
+        let at-x = snoc-at (ups s.xs) s.count (s.count + 1) x refl (rw length-ups a) in
+        let at-y = snoc-at (ups s.ys) s.count (s.count + 1) y refl (rw length-ups b) in
+        let at-links = links-push s.count s.links (none ∷ none ∷ none ∷ none ∷ []) c in
+        rw (le-ltb _ s.count h, ex, ey, at-x, at-y, at-links, snoc-at s.marks s.count (s.count + 1) m refl d)
 
     pub full-new : (place (graph_of s) x y m).count ≡ s.count + 1
     unfolding place push

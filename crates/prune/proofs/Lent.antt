@@ -71,14 +71,18 @@ links-moved g g1 g2 g3 g4 i j a b c d ea eb ec ed q1 q2 q3 q4 =
     let zj : j * 4 + 0 ≡ j * 4 = omega arith in
     rw (q4, q3, q2, q1, ea, eb, ec, ed, zi, zj)
 
-pub moved_is : (g g1 g2 g3 : Graph) (i j x y m : ℕ) → x ≡ X g j → y ≡ Y g j → g1 ≡ stand g i x y → g2 ≡ with_links g1 (moved_links g1.links i j) → m ≡ mark_of g2 j → g3 ≡ mark_as g2 i m → g3 ≡ moved g i j
+pub moved_is : (g g1 g2 g3 : Graph) (i j x y m : ℕ) → x ≡ X g j → y ≡ Y g j
+    → g1 ≡ stand g i x y → g2 ≡ with_links g1 (moved_links g1.links i j) → m ≡ mark_of g2 j → g3 ≡ mark_as g2 i m → g3 ≡ moved g i j
 unfolding stand mark_as with_links moved
 moved_is g g1 g2 g3 i j x y m ex ey q1 q2 em q3 = rw (q3, em, q2, q1, ex, ey)
 
-pub shrunk : (s : Store) (n : ℕ) → s.count ≡ n → record { count = n - 1; xs = take (n - 1) (ups s.xs); ys = take (n - 1) (ups s.ys); links = links_of (take (n - 1) s.links); marks = take (n - 1) s.marks } ≡ shrink (graph_of s)
+pub shrunk : (s : Store) (n : ℕ) → s.count ≡ n
+    → record { count = n - 1; xs = take (n - 1) (ups s.xs); ys = take (n - 1) (ups s.ys); links = links_of (take (n - 1) s.links); marks = take (n - 1) s.marks } ≡ shrink (graph_of s)
 unfolding shrink
 shrunk s n e =
-    rw (← e, links-take (s.count - 1) (take s.count s.links), take-take (s.count - 1) s.count (ups s.xs) (omega arith), take-take (s.count - 1) s.count (ups s.ys) (omega arith), take-take (s.count - 1) s.count s.links (omega arith), take-take (s.count - 1) s.count s.marks (omega arith))
+    let m : ℕ = s.count - 1 in
+    let low : m ≤ s.count = omega arith in
+    rw (← e, links-take m (take s.count s.links), take-take m s.count (ups s.xs) low, take-take m s.count (ups s.ys) low, take-take m s.count s.links low, take-take m s.count s.marks low)
 
 pub drop-last : (s : Store) (i : ℕ) → i ≡ s.count - 1 → shrink (graph_of s) ≡ drop_node (graph_of s) i
 unfolding drop_node

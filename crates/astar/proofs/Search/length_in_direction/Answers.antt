@@ -6,7 +6,8 @@ pub loop-p-init : goal.loop-p-init
 loop-p-init c = walk_start _ c.requires.ready _ _ _ c.requires.inside.0
 
 pub loop-p-preserved : goal.loop-p-preserved
-loop-p-preserved c = walk_step _ c.requires.ready _ _ _ _ _ c.loop-p.invariant _ c.in-Some.ensures c.requires.inside.1 (sym (c.link.ensures.value (search rules)) ∙ c.if-link-p.false) _ c.distance-len.ensures.0
+loop-p-preserved c =
+    walk_step _ c.requires.ready _ _ _ _ _ c.loop-p.invariant _ c.in-Some.ensures c.requires.inside.1 (sym (c.link.ensures.value (search rules)) ∙ c.if-link-p.false) _ c.distance-len.ensures.0
 
 pub returns-then-link-p : goal.returns-then-link-p
 returns-then-link-p c = walk_turn _ c.requires.ready _ _ _ _ _ c.loop-p.invariant _ c.in-Some.ensures (λ z. c.if-link-p.true (c.link.ensures.value (search rules) ∙ z))

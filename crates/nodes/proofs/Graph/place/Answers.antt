@@ -14,7 +14,9 @@ returns-then-i-eq-NODES-clause-met c = omega (arith, full-new c.args.self.now c.
 
 pub returns-clause-met : goal.returns-clause-met
 returns-clause-met c =
-    (omega (arith, c.in_default.ensures, find-le (graph_of c.args.self.now) c.args.x c.args.y), omega arith, placed-new c.args.self.now c.args.x c.args.y c.args.m c.in_default.ensures _ _ c.put.ensures c.put-2.ensures (omega arith) (omega arith) (omega arith) (omega arith))
+    let s = c.args.self.now in
+    let made = placed-new s c.args.x c.args.y c.args.m c.in_default.ensures _ _ c.put.ensures c.put-2.ensures (omega arith) (omega arith) (omega arith) (omega arith) in
+    (omega (arith, c.in_default.ensures, find-le (graph_of s) c.args.x c.args.y), omega arith, made)
 
 pub returns-clause-keyed : goal.returns-clause-keyed
 returns-clause-keyed c =
