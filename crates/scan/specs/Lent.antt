@@ -43,8 +43,9 @@ pub record Paged (p : Page) : Type 0 where
 abbrev pub graph_in : Builder → Graph
 graph_in b = graph_of b.graph.now
 
--- the page and the graph are the same lent ones, and the graph's places are in the map
+-- the page, its columns and the graph are the same, and the graph's places are in the map
 pub record Kept (v w : Builder) : Type 0 where
   pub same_page : w.page ≡ v.page
+  pub same_columns : w.columns ≡ v.columns
   pub same_graph : w.graph.ghost_name ≡ v.graph.ghost_name
   pub keyed : Keyed w.map (graph_in w)

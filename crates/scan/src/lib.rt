@@ -3,9 +3,10 @@
 
 ghost use Rattle.std.specs.Prelude.{◌≡◌, ◌<◌, ◌≤◌, cond, ltb, length};
 ghost use Rattle.fixed.specs.Up.{ups};
-ghost use Rattle.sightline.specs.Sight.{Rising};
+ghost use Rattle.sightline.specs.Sight.{Rising, cutoff};
 ghost use Rattle.sightline.specs.Beyond.{index, axis_of, axis};
-ghost use Rattle.sightline.specs.Lent.{line};
+ghost use Rattle.sightline.specs.Lent.{line, line_of};
+ghost use Rattle.sightline.specs.Columns.{Held};
 ghost use Rattle.nodes.specs.Graph.{empty};
 ghost use Rattle.nodes.specs.Columns.{graph_of};
 ghost use Rattle.nodes.specs.Lent.{Built, Met};
@@ -16,7 +17,7 @@ ghost use Rattle.scan.specs.Lent.{way_in, page_in, anchor_in, graph_in, Paged, K
 
 use fixed::{Anchor, Axis, PaddedBox};
 use nodes::{Graph, Map};
-use sightline::{Direction, Line};
+use sightline::{Columns, Direction, Line};
 
 // The mark of all four directions.
 const ALL: u32 = 15;
@@ -47,12 +48,25 @@ struct Start {
     j: usize,
 }
 
-// The graph of a page while it is built, and the map of its places.
+// The graph of a page while it is built, the map of its places, and the columns of the page's boxes, unless they are too many.
 #[derive(Drop)]
 struct Builder<'a> {
     page: Page<'a>,
+    columns: Option<Columns>,
     graph: &'a mut Graph,
     map: Map,
+}
+
+// The cutoff on a line. Columns, if there are any, hold its boxes, and take less time.
+fn cutoff(line: Line, columns: &Option<Columns>, anchor: u32, coords: &[i32], ahead: bool) -> usize
+    requires asked { Held line.boxes.now columns.now }
+    requires rising { Rising (ups coords.now) }
+    ensures { result ≡ cutoff (line_of line.entry) anchor ahead (ups coords.now) 0 }
+{
+    match columns {
+        Some(columns) => columns.cutoff(line.along, line.at, line.ignore, anchor, coords, 0, ahead),
+        None => line.cutoff(anchor, coords, 0, ahead),
+    }
 }
 
 impl Way<'_> {
@@ -82,7 +96,8 @@ impl Way<'_> {
     }
 
     // How many coordinates next to the anchor are clear.
-    fn reach(self, page: Page, anchor: u32, ignore: usize) -> usize
+    fn reach(self, page: Page, columns: &Option<Columns>, anchor: u32, ignore: usize) -> usize
+        requires asked { Held page.boxes.now columns.now }
         requires follows { self.axis.now ≡ axis self.dir page.ax.now page.ay.now }
         requires rising { Rising (ups self.axis.now) }
         requires from_in { self.from < length self.axis.now }
@@ -96,7 +111,7 @@ impl Way<'_> {
         };
         let part = sightline::beyond(page.ax, page.ay, self.dir, self.from);
         let ahead = self.dir.is_ahead();
-        let cut = line.cutoff(anchor, part, 0, ahead);
+        let cut = cutoff(line, columns, anchor, part, ahead);
         if ahead { cut } else { self.from - cut }
     }
 }
@@ -145,6 +160,7 @@ impl Builder<'_> {
     // The scan of an anchor in a direction, if that is among its directions.
     fn toward(&mut self, start: Start, dir: Direction) -> Option<()>
         requires paged { Paged (page_in self.old.page) }
+        requires asked { Held self.old.page.boxes.now self.old.columns }
         requires start_in { (start.node < self.old.graph.now.count) × (start.i < length self.old.page.ax.now) × (start.j < length self.old.page.ay.now) }
         requires keyed { Keyed self.old.map (graph_in self.old) }
         ensures built { Built result (graph_in self.new) (toward (page_in self.old.page) (anchor_in start.anchor) start.node start.i start.j (index dir) (graph_in self.old)) }
@@ -174,13 +190,14 @@ impl Builder<'_> {
                 anchor.y,
             ),
         };
-        let m = way.reach(self.page, at, anchor.ignored as usize);
+        let m = way.reach(self.page, &self.columns, at, anchor.ignored as usize);
         self.walk(way, start.node, m)
     }
 
     // The scans of an anchor in its directions.
     fn scans(&mut self, start: Start) -> Option<()>
         requires paged { Paged (page_in self.old.page) }
+        requires asked { Held self.old.page.boxes.now self.old.columns }
         requires start_in { (start.node < self.old.graph.now.count) × (start.i < length self.old.page.ax.now) × (start.j < length self.old.page.ay.now) }
         requires keyed { Keyed self.old.map (graph_in self.old) }
         ensures built { Built result (graph_in self.new) (scans (page_in self.old.page) (anchor_in start.anchor) start.node start.i start.j (graph_in self.old)) }
@@ -195,6 +212,7 @@ impl Builder<'_> {
     // The scans of an anchor that has a node and stands on both axis lists.
     fn scan_anchor(&mut self, anchor: Anchor) -> Option<()>
         requires paged { Paged (page_in self.old.page) }
+        requires asked { Held self.old.page.boxes.now self.old.columns }
         requires keyed { Keyed self.old.map (graph_in self.old) }
         ensures built { Built result (graph_in self.new) (scan_anchor (page_in self.old.page) (anchor_in anchor) (graph_in self.old)) }
         ensures kept { Kept self.old self.new }
@@ -251,6 +269,7 @@ pub fn build(page: Page, anchors: &[Anchor], explicit: usize, graph: &mut Graph)
     graph.clear();
     let mut builder = Builder {
         page,
+        columns: Columns::of(page.boxes),
         graph,
         map: Map::new(),
     };

@@ -18,4 +18,4 @@ returns-clause-met c =
     rw (place_on-is, find_on-is, ← c.along.ensures, ← c.place_at-x.ensures.x, ← c.place_at-x.ensures.y) (p.0, omega (arith, p.1, c.link_both.ensures.kept), rw (l, p.2, p.0))
 
 pub returns-clause-kept : goal.returns-clause-kept
-returns-clause-kept c = record { same_page = refl; same_graph = refl; keyed = keyed-linked _ _ _ _ _ c.link_both.ensures.value c.in_ok-node.ensures.keyed }
+returns-clause-kept c = record { same_page = refl; same_columns = refl; same_graph = refl; keyed = keyed-linked _ _ _ _ _ c.link_both.ensures.value c.in_ok-node.ensures.keyed }
