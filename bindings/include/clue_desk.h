@@ -112,7 +112,7 @@ extern "C" {
 #define CLUE_DESK_KIND_NET 2
 #define CLUE_DESK_KIND_END 3
 
-/* Bytes of stack that suffice for a call; measured, not proved: layout takes 518,552 of a thread's, search 452,952, the other calls
+/* Bytes of stack that suffice for a call; measured, not proved: layout takes 522,600 of a thread's, search 457,000, the other calls
  * 17,448 at most. */
 #define CLUE_DESK_STACK 655360
 

@@ -90,6 +90,6 @@ pub const POS_X: u32 = 2;
 pub const NEG_Y: u32 = 4;
 pub const POS_Y: u32 = 8;
 
-/// Bytes of stack that suffice for a call; measured, not proved: a layout takes 518,552 of a
-/// thread's, a search 452,952, the other calls 17,448 at most.
+/// Bytes of stack that suffice for a call; measured, not proved: a layout takes 522,600 of a
+/// thread's, a search 457,000, the other calls 17,448 at most.
 pub const STACK: usize = 640 * 1024;
