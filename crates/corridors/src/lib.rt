@@ -200,8 +200,8 @@ fn implicit_anchors(boxes: &[PaddedBox], anchors: &mut [Anchor]) -> Option<usize
 {
     let mut xs = [0i32; EDGES];
     let mut ys = [0i32; EDGES];
-    let nx = axis::edges(&mut xs, boxes, Axis::X);
-    let ny = axis::edges(&mut ys, boxes, Axis::Y);
+    let nx = axis::edges_signed(&mut xs, boxes, Axis::X);
+    let ny = axis::edges_signed(&mut ys, boxes, Axis::Y);
     let (xs, ys) = (&xs[..nx], &ys[..ny]);
     let level_grid = Grid {
         boxes,

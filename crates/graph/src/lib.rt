@@ -22,8 +22,8 @@ fn whole(boxes: &[PaddedBox], anchors: &[Anchor], explicit: usize, graph: &mut G
     let mut nx = 0;
     let mut ny = 0;
     for anchor in anchors {
-        nx = axis::insert(&mut ax, nx, anchor.x);
-        ny = axis::insert(&mut ay, ny, anchor.y);
+        nx = axis::insert_signed(&mut ax, nx, anchor.x);
+        ny = axis::insert_signed(&mut ay, ny, anchor.y);
     }
     let page = Page {
         boxes,

@@ -65,7 +65,7 @@ fn cutoff(line: Line, columns: &Option<Columns>, anchor: u32, coords: &[i32], ah
 {
     match columns {
         Some(columns) => columns.cutoff(line.along, line.at, line.ignore, anchor, coords, 0, ahead),
-        None => line.cutoff(anchor, coords, 0, ahead),
+        None => line.cutoff_signed(anchor, coords, 0, ahead),
     }
 }
 

@@ -13,20 +13,20 @@ pub loop-anchor-init : goal.loop-anchor-init
 unfolding inserts
 loop-anchor-init c = record { x_axis = refl; y_axis = refl; few_x = omega arith; few_y = omega arith }
 
-pub insert-nx-requires : goal.insert-nx-requires
-insert-nx-requires c = (omega arith, rw c.loop-anchor.invariant.x_axis (axis-sorted _ _).rising)
+pub insert_signed-nx-requires : goal.insert_signed-nx-requires
+insert_signed-nx-requires c = (omega arith, rw c.loop-anchor.invariant.x_axis (axis-sorted _ _).rising)
 
-pub insert-ny-requires : goal.insert-ny-requires
-insert-ny-requires c = (omega arith, rw c.loop-anchor.invariant.y_axis (axis-sorted _ _).rising)
+pub insert_signed-ny-requires : goal.insert_signed-ny-requires
+insert_signed-ny-requires c = (omega arith, rw c.loop-anchor.invariant.y_axis (axis-sorted _ _).rising)
 
 pub loop-anchor-preserved : goal.loop-anchor-preserved
 loop-anchor-preserved c =
     let i = c.loop-anchor.invariant in
     record {
-      x_axis = axis-more _ _ _ _ _ _ (omega arith) i.x_axis c.insert-nx.ensures.axis_value;
-      y_axis = axis-more _ _ _ _ _ _ (omega arith) i.y_axis c.insert-ny.ensures.axis_value;
-      few_x = omega (arith, c.insert-nx.ensures.upper_bound);
-      few_y = omega (arith, c.insert-ny.ensures.upper_bound);
+      x_axis = axis-more _ _ _ _ _ _ (omega arith) i.x_axis c.insert_signed-nx.ensures.axis_value;
+      y_axis = axis-more _ _ _ _ _ _ (omega arith) i.y_axis c.insert_signed-ny.ensures.axis_value;
+      few_x = omega (arith, c.insert_signed-nx.ensures.upper_bound);
+      few_y = omega (arith, c.insert_signed-ny.ensures.upper_bound);
     }
 
 pub build-requires : goal.build-requires

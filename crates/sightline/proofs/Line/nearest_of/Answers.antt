@@ -4,7 +4,7 @@ use lib.ListN.{length-drop}
 use lib.Seq.{length-take-le, get_or-take, get_or-drop}
 use Rattle.fixed.proofs.Boxes.{no_box, leasts-at, greatests-at}
 use Rattle.fixed.specs.Boxes.{across}
-use Rattle.sightline.proofs.Bounds.{near-box, near-at}
+use Rattle.sightline.proofs.Bounds.{near-other, near-at}
 use Rattle.sightline.proofs.Line.nearest_of.Goals as goal
 
 pub loop-x-init : goal.loop-x-init
@@ -24,7 +24,7 @@ loop-x-preserved c =
     let f = leasts-at boxes c.args.self.along (c.args.from + k) no_box inside in
     let t = greatests-at boxes c.args.self.along (c.args.from + k) no_box inside in
     rw (c.nearer-edge.ensures, c.in_view.ensures)
-    (near-at (omega arith) (near-box _ _ _ _ _ _ (c.requires.asked.apart (c.args.from + k) (omega arith) (omega arith)) (rw (l, h, sym e) c.bears.ensures) (rw (f, sym e) c.least-low.ensures) (rw (t, sym e) c.greatest-high.ensures) c.args.ahead _ _ (omega arith) (omega arith) c.loop-x.invariant))
+    (near-at (omega arith) (near-other _ _ _ _ _ _ (c.requires.asked.apart (c.args.from + k) (omega arith) (omega arith)) (rw (l, h, sym e) c.bears.ensures) (rw (f, sym e) c.least-low.ensures) (rw (t, sym e) c.greatest-high.ensures) c.args.ahead _ _ (omega arith) (omega arith) c.loop-x.invariant))
 
 pub returns : goal.returns
 returns c =

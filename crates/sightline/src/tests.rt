@@ -1,0 +1,57 @@
+ghost use Rattle.std.specs.Prelude.{◌≡◌, true};
+ghost use Rattle.sightline.specs.Sight.{Rising};
+
+use crate::{
+    Axis, Line, find_neg_x_cutoff, find_neg_y_cutoff, find_pos_x_cutoff, find_pos_y_cutoff,
+};
+use fixed::PaddedBox;
+
+// Whether coordinates are in rising order.
+fn are_rising(coords: &[u32]) -> bool
+    ensures { result ≡ true → Rising coords.now }
+{
+    coords.is_sorted()
+}
+
+// A box from 10 to 20 along both axes, and one that is no wider than a point.
+const BOXES: [PaddedBox; 2] = [
+    PaddedBox {
+        min_x: 10,
+        min_y: 10,
+        max_x: 20,
+        max_y: 20,
+    },
+    PaddedBox {
+        min_x: 40,
+        min_y: 50,
+        max_x: 40,
+        max_y: 50,
+    },
+];
+
+#[test]
+fn ends_views(rt: HostRuntime) {
+    let coords = [0, 9, 10, 20, 21, 30];
+    assert!(rt; are_rising(&coords));
+    let boxes = &BOXES;
+    // On a line through the first box, on its edge, past it, and where it is ignored.
+    for (at, ignore, neg, pos) in [
+        (15, 2, 104, 102),
+        (20, 2, 104, 102),
+        (21, 2, 100, 106),
+        (15, 0, 100, 106),
+    ] {
+        assert_eq!(rt; find_neg_x_cutoff(boxes, at, &coords, 35, 100, ignore), neg);
+        assert_eq!(rt; find_pos_x_cutoff(boxes, at, 0, &coords, 100, ignore), pos);
+        assert_eq!(rt; find_neg_y_cutoff(boxes, at, &coords, 35, 100, ignore), neg);
+        assert_eq!(rt; find_pos_y_cutoff(boxes, at, 0, &coords, 100, ignore), pos);
+    }
+    let line = Line {
+        boxes,
+        along: Axis::Y,
+        at: 40,
+        ignore: 0,
+    };
+    assert_eq!(rt; line.cutoff(60, &coords, 0, false), 6);
+    assert_eq!(rt; line.cutoff(0, &coords, 0, true), 6);
+}
