@@ -1,3 +1,4 @@
+// Lists of coordinates counted from -2^31, which no program makes, by values worked out by hand.
 use crate::{edges, insert};
 use fixed::{Axis, PaddedBox};
 
